@@ -1,0 +1,3 @@
+mod Shifts
+mod Orders
+pub mod Soundness

@@ -1,0 +1,66 @@
+-- What shifts and masks of a 64-bit word keep and lose.
+use mathlib.Core.Path.{_≡_, refl, sym, ap, ap₂, _∙_}
+use mathlib.Core.Bool.{true}
+use mathlib.Core.Logic.{⊎-elim}
+use Prim.Native.Nat.{ℕ, _+_, _-_, _*_, _/_, _%_, _^_, _<_, _≤_, min}
+use native.Mathlib.Nat.{mod-eq-of-lt, div-eq-of-lt, mul-le-mul-right, one-mul}
+use lib.Dec.{eqb, ltb}
+use lib.Pow.{pow-mono}
+use native.Mathlib.Omega.{arith}
+use Rattle.std.proofs.shelf.Bits.{pow-pos, field-of, shl-shr, mod-below, shl-below, le-div}
+use Rattle.std.proofs.shelf.Tests.{cases-lt, lt-ltb}
+use Rattle.std.proofs.shelf.Ways.{tells}
+
+pub shl-kept : (a k : ℕ) → a * 2 ^ k < 2 ^ 64 → (a * 2 ^ k) % 2 ^ 64 ≡ a * 2 ^ k
+shl-kept a k h = mod-eq-of-lt h
+
+-- the digits that are left, moved back, are the lowest of a
+pub shl-back : (a k : ℕ) → k < 64 → (a * 2 ^ k) % 2 ^ 64 / 2 ^ k ≡ a % 2 ^ (64 - k)
+shl-back a k h =
+    let e : 64 ≡ 64 - k + k = omega arith in
+    ap (λ x. (a * 2 ^ k) % 2 ^ x / 2 ^ k) e ∙ field-of (a * 2 ^ k) (64 - k) k ∙ ap (λ x. x % 2 ^ (64 - k)) (shl-shr a k)
+
+-- a shift that comes back as it was has lost nothing
+pub shl-whole-back : (a k : ℕ) → k < 64 → (a * 2 ^ k) % 2 ^ 64 / 2 ^ k ≡ a → a * 2 ^ k < 2 ^ 64
+shl-whole-back a k h b =
+    let m = mod-below a (2 ^ (64 - k)) (pow-pos (64 - k)) in
+    let s = shl-back a k h in
+    let l = shl-below a (64 - k) k (omega arith) in
+    let e : 64 ≡ 64 - k + k = omega arith in
+    let p : 2 ^ 64 ≡ 2 ^ (64 - k + k) = ap (λ x. 2 ^ x) e in
+    omega arith
+
+-- and one that has lost nothing comes back as it was
+pub shl-kept-back : (a k : ℕ) → a * 2 ^ k < 2 ^ 64 → (a * 2 ^ k) % 2 ^ 64 / 2 ^ k ≡ a
+shl-kept-back a k h = ap (λ x. x / 2 ^ k) (shl-kept a k h) ∙ shl-shr a k
+
+-- no size but 0 stands a shift by 64 or more
+pub shl-far : (a k : ℕ) → 0 < a → 64 ≤ k → 2 ^ 64 ≤ a * 2 ^ k
+shl-far a k p h =
+    let m : 2 ^ 64 ≤ 2 ^ k = pow-mono h in
+    let n : 1 * 2 ^ k ≤ a * 2 ^ k = mul-le-mul-right (2 ^ k) p in
+    omega (arith, one-mul (2 ^ k))
+
+-- a shift down leaves nothing exactly if there are no digits above
+pub shr-fits : (n k : ℕ) → eqb (n / 2 ^ k) 0 ≡ ltb n (2 ^ k)
+shr-fits n k =
+    ⊎-elim
+    (λ (h : n < 2 ^ k). let z : n / 2 ^ k ≡ 0 = div-eq-of-lt h in grind (arith, tells))
+    (λ h. let z : 1 ≤ n / 2 ^ k = le-div 1 n (2 ^ k) (pow-pos k) (omega (arith, one-mul (2 ^ k))) in grind (arith, tells))
+    (cases-lt n (2 ^ k))
+
+-- 64 places or more hold every word
+pub wide-fits : (n k : ℕ) → n < 2 ^ 64 → 64 ≤ k → ltb n (2 ^ k) ≡ true
+wide-fits n k h l = let m : 2 ^ 64 ≤ 2 ^ k = pow-mono l in lt-ltb n (2 ^ k) (omega arith)
+
+-- and the lowest 64 digits are all that it has
+pub low-min : (n k : ℕ) → n < 2 ^ 64 → n % 2 ^ min k 64 ≡ n % 2 ^ k
+low-min n k h =
+    ⊎-elim
+    (λ (l : k < 64). let e : min k 64 ≡ k = omega arith in ap (λ x. n % 2 ^ x) e)
+    (λ l.
+    let e : min k 64 ≡ 64 = omega arith in
+    let m : 2 ^ 64 ≤ 2 ^ k = pow-mono l in
+    let t : n < 2 ^ k = omega arith in
+    ap (λ x. n % 2 ^ x) e ∙ mod-eq-of-lt h ∙ sym (mod-eq-of-lt t))
+    (cases-lt k 64)

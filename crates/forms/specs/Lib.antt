@@ -1,0 +1,4 @@
+pub mod Refusals
+pub mod Loads
+pub mod Purchases
+pub mod Comparisons
