@@ -1,3 +1,4 @@
 mod Shifts
 mod Orders
+mod Layers
 pub mod Soundness

@@ -3,12 +3,12 @@ use mathlib.Core.Path.{_≡_, refl, sym, ap, ap₂, _∙_}
 use mathlib.Core.Bool.{true}
 use mathlib.Core.Logic.{⊎-elim}
 use Prim.Native.Nat.{ℕ, _+_, _-_, _*_, _/_, _%_, _^_, _<_, _≤_, min}
-use native.Mathlib.Nat.{mod-eq-of-lt, div-eq-of-lt, mul-le-mul-right, one-mul}
-use lib.Dec.{eqb, ltb}
+use native.Mathlib.Nat.{mod-eq-of-lt, mul-le-mul-right, one-mul}
+use lib.Dec.{leb, ltb}
 use lib.Pow.{pow-mono}
 use native.Mathlib.Omega.{arith}
-use Rattle.std.proofs.shelf.Bits.{pow-pos, field-of, shl-shr, mod-below, shl-below, le-div}
-use Rattle.std.proofs.shelf.Tests.{cases-lt, lt-ltb}
+use Rattle.std.proofs.shelf.Bits.{pow-pos, field-of, shl-shr, mod-below, shl-below}
+use Rattle.std.proofs.shelf.Tests.{cases-lt}
 use Rattle.std.proofs.shelf.Ways.{tells}
 
 pub shl-kept : (a k : ℕ) → a * 2 ^ k < 2 ^ 64 → (a * 2 ^ k) % 2 ^ 64 ≡ a * 2 ^ k
@@ -41,26 +41,14 @@ shl-far a k p h =
     let n : 1 * 2 ^ k ≤ a * 2 ^ k = mul-le-mul-right (2 ^ k) p in
     omega (arith, one-mul (2 ^ k))
 
--- a shift down leaves nothing exactly if there are no digits above
-pub shr-fits : (n k : ℕ) → eqb (n / 2 ^ k) 0 ≡ ltb n (2 ^ k)
-shr-fits n k =
-    ⊎-elim
-    (λ (h : n < 2 ^ k). let z : n / 2 ^ k ≡ 0 = div-eq-of-lt h in grind (arith, tells))
-    (λ h. let z : 1 ≤ n / 2 ^ k = le-div 1 n (2 ^ k) (pow-pos k) (omega (arith, one-mul (2 ^ k))) in grind (arith, tells))
-    (cases-lt n (2 ^ k))
+-- the greatest number of k digits
+pub ones-cover : (n k : ℕ) → leb n (2 ^ k - 1) ≡ ltb n (2 ^ k)
+ones-cover n k = let p = pow-pos k in grind (arith, tells)
 
 -- 64 places or more hold every word
-pub wide-fits : (n k : ℕ) → n < 2 ^ 64 → 64 ≤ k → ltb n (2 ^ k) ≡ true
-wide-fits n k h l = let m : 2 ^ 64 ≤ 2 ^ k = pow-mono l in lt-ltb n (2 ^ k) (omega arith)
+pub wide : (n k : ℕ) → n < 2 ^ 64 → 64 ≤ k → n < 2 ^ k
+wide n k h l = let m : 2 ^ 64 ≤ 2 ^ k = pow-mono l in omega arith
 
--- and the lowest 64 digits are all that it has
-pub low-min : (n k : ℕ) → n < 2 ^ 64 → n % 2 ^ min k 64 ≡ n % 2 ^ k
-low-min n k h =
-    ⊎-elim
-    (λ (l : k < 64). let e : min k 64 ≡ k = omega arith in ap (λ x. n % 2 ^ x) e)
-    (λ l.
-    let e : min k 64 ≡ 64 = omega arith in
-    let m : 2 ^ 64 ≤ 2 ^ k = pow-mono l in
-    let t : n < 2 ^ k = omega arith in
-    ap (λ x. n % 2 ^ x) e ∙ mod-eq-of-lt h ∙ sym (mod-eq-of-lt t))
-    (cases-lt k 64)
+-- and the lowest of them are all that it has
+pub wide-low : (n k : ℕ) → n < 2 ^ 64 → 64 ≤ k → n % 2 ^ 64 ≡ n % 2 ^ k
+wide-low n k h l = let w = wide n k h l in mod-eq-of-lt h ∙ sym (mod-eq-of-lt w)

@@ -1,4 +1,4 @@
-// The comparison of loads that come in different forms, each as a sign, a size and a scale: ported from cmp.rs of the crate `fixed`.
+// The comparison of loads that come in different forms, each as a sign, a size and a scale: ported from cmp.rs of the Rust crate `fixed`.
 // Its `Value` is a `Load` here, and every size has 64 bits.
 ghost use mathlib.Core.Path.{_≡_};
 ghost use Prim.Native.Nat.{_*_, _^_};
@@ -14,7 +14,7 @@ use crate::refusal::Refusal;
 use crate::source::Source;
 
 // How one load stands to another; unordered where either side is no number.
-#[derive(Clone, Copy, PartialEq, Eq, Debug)]
+#[derive(Clone, Copy, PartialEq, Eq)]
 pub enum Comparison {
     Less,
     Equal,

@@ -2,7 +2,7 @@ ghost use mathlib.Core.Path.{_≡_};
 ghost use Rattle.forms.specs.Loads.{signed, load-of, endless};
 
 // A load: a number of kilonewtons, worth size / 2^scale, or minus that. Zero has size 0, scale 0 and no sign.
-// Loads are equal when their worth is equal, whatever their scales, so there is no `==` on them: `cmp::compare` answers it.
+// Loads are equal when their worth is equal, whatever their scales, so there is no `==` on them; `cmp::equal` compares readings where they come from.
 #[derive(Clone, Copy)]
 pub struct Load {
     pub negative: bool,

@@ -2,7 +2,7 @@ ghost use mathlib.Core.Path.{_≡_};
 ghost use Rattle.std.specs.declared.result.Result.the-variants.{Ok, Err};
 ghost use Rattle.forms.specs.Refusals.{told};
 ghost use Rattle.forms.specs.Loads.{Sound-load, Sound-reading};
-ghost use Rattle.forms.specs.Purchases.{doublings, factor-of, raise-load, layered};
+ghost use Rattle.forms.specs.Purchases.{doublings, factor-of, raise-load, layered, times, Counts};
 use crate::load::Load;
 use crate::load::Reading;
 use crate::refusal::Cause;
@@ -10,7 +10,7 @@ use crate::refusal::Refusal;
 use crate::source::Source;
 
 // How many times a load counts under a purchase, the rope rove double.
-#[derive(Clone, Copy, PartialEq, Eq, Debug)]
+#[derive(Clone, Copy, PartialEq, Eq)]
 pub enum Factor {
     Two,
     Four,
@@ -98,7 +98,10 @@ fn raise(factor: Factor, reading: Reading) -> Result<Reading, Refusal>
 pub impl<S: Source> Source for Purchase<S> as PurchaseSource {
     ghost reads = { λ p bits. layered (p .factor) (S·Source .reads (p .source) bits) };
 
-    fn read(&self, bits: u64) -> Result<Reading, Refusal> {
+    fn read(&self, bits: u64) -> Result<Reading, Refusal>
+        ensures value { λ r. ⌜ told r ≡ layered (now (self .entry) .factor) (S·Source .reads (now (self .entry) .source) bits) ⌝ }
+        ensures counts { λ r. ⌜ Counts (times (now (self .entry) .factor)) (S·Source .reads (now (self .entry) .source) bits) (told r) ⌝ }
+    {
         match self.source.read(bits) {
             Ok(reading) => raise(self.factor, reading),
             Err(refusal) => Err(Refusal {

@@ -1,8 +1,8 @@
 ghost use mathlib.Core.Path.{_≡_};
-ghost use Rattle.forms.specs.Refusals.{«number-of»};
+ghost use Rattle.forms.specs.Refusals.{number-of};
 
 // Why a call was refused.
-#[derive(Clone, Copy, PartialEq, Eq, Debug)]
+#[derive(Clone, Copy, PartialEq, Eq)]
 pub enum Cause {
     // a fixed form's width is not 8, 16, 32 or 64, or its fraction is longer than its width
     UnlawfulForm,
@@ -27,7 +27,7 @@ pub enum Cause {
 impl Cause {
     // The number by which this cause is known on sheets and in answers.
     pub fn number(self) -> u8
-        ensures { λ r. ⌜ r ≡ «number-of» self ⌝ }
+        ensures { λ r. ⌜ r ≡ number-of self ⌝ }
     {
         match self {
             Cause::UnlawfulForm => 1,
@@ -44,7 +44,7 @@ impl Cause {
 }
 
 // A call's refusal: its cause, and the depth, which counts the purchase layers that it came up through.
-#[derive(Clone, Copy, PartialEq, Eq, Debug)]
+#[derive(Clone, Copy, PartialEq, Eq)]
 pub struct Refusal {
     pub cause: Cause,
     pub depth: u16,

@@ -16,5 +16,5 @@ pub trait Source {
     law sound: { (s : Self) (bits : ℕ) → Sound (reads s bits) };
 
     fn read(&self, bits: u64) -> Result<Reading, Refusal>
-        ensures { λ r. ⌜ told r ≡ reads (now (self .entry)) bits ⌝ };
+        ensures value { λ r. ⌜ told r ≡ reads (now (self .entry)) bits ⌝ };
 }

@@ -1,11 +1,13 @@
-// The binary digits of a 64-bit word. Above these functions nothing sees a mask or a shift of a form's bits.
+// The binary digits of a 64-bit word.
 ghost use mathlib.Core.Path.{_≡_};
-ghost use Prim.Native.Nat.{_-_, _%_, _^_, min};
-ghost use lib.Dec.{ltb};
+ghost use Prim.Native.Nat.{ℕ, _%_, _^_, _<_};
+ghost use lib.Bits.{bitAnd};
+ghost use lib.Dec.{leb, ltb};
 
-// So many ones, 64 at most.
-pub fn all_ones(count: u32) -> u64
-    ensures { λ r. ⌜ r ≡ 2 ^ min count 64 - 1 ⌝ }
+// So many ones, 64 at most: a mask that takes the lowest digits, and the greatest number that they can be.
+fn ones(count: u32) -> u64
+    ensures takes { λ r. ⌜ ((n : ℕ) → n < 2 ^ 64 → bitAnd n r ≡ n % 2 ^ count) ⌝ }
+    ensures covers { λ r. ⌜ ((n : ℕ) → n < 2 ^ 64 → leb n r ≡ ltb n (2 ^ count)) ⌝ }
 {
     if count < 64 {
         (1 << count) - 1
@@ -18,12 +20,12 @@ pub fn all_ones(count: u32) -> u64
 pub fn low_digits(bits: u64, count: u32) -> u64
     ensures { λ r. ⌜ r ≡ bits % 2 ^ count ⌝ }
 {
-    bits & all_ones(count)
+    bits & ones(count)
 }
 
 // Whether there is no digit above the lowest `width`.
 pub fn fits(bits: u64, width: u32) -> bool
     ensures { λ r. ⌜ r ≡ ltb bits (2 ^ width) ⌝ }
 {
-    width >= 64 || bits >> width == 0
+    bits <= ones(width)
 }
