@@ -19,7 +19,7 @@ use Rattle.forms.specs.Loads.{signed, load-of, endless, Sound, Sound-reading, S
 use Rattle.forms.proofs.Soundness.{sound-load-of}
 use Rattle.float.specs.Formats.{Lawful, exp-max, exp-min}
 use Rattle.float.specs.Floats.{sign-of, biased-of, trailing-of, scaled, of-fields, float-of, float-reads}
-use Rattle.float.proofs.Fields.{exponents, biased-below, exp-max-some, twice-less}
+use Rattle.float.proofs.Fields.{exponents, exp-max-some, twice-less}
 
 signed-size : (s : Bool) (n : ℕ) → natAbs (signed s n) ≡ n
 signed-size false n = refl

@@ -1,2 +1,2 @@
 mod Fields
-mod InRange
+pub mod InRange

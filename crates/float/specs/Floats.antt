@@ -30,15 +30,19 @@ trailing-of prec bits = bits % 2 ^ (prec - 1)
 abbrev pub scaled : ℕ → Bool → ℕ → ℤ → Reading
 scaled prec negative significand exponent = Finite (load-of (signed negative significand) (pos (prec - 1) -ℤ exponent))
 
--- the number of a sign, a biased exponent and a trailing significand: an exponent field of all ones is an infinity or no number, one of 0 has no
--- digit before the point, and any other has a 1 there
+-- a number: an exponent field of 0 has no digit before the point and the least exponent, and any other has a 1 there and its own exponent
+abbrev pub finite : ℕ → ℕ → Bool → ℕ → ℕ → Reading
+finite width prec negative biased trailing =
+    cond (eqb biased 0)
+    (scaled prec negative trailing (exp-min width prec))
+    (scaled prec negative (2 ^ (prec - 1) + trailing) (pos biased -ℤ pos (exp-max width prec)))
+
+-- the reading of a sign, a biased exponent and a trailing significand: an exponent field of all ones is an infinity or no number
 abbrev pub of-fields : ℕ → ℕ → Bool → ℕ → ℕ → Reading
 of-fields width prec negative biased trailing =
     cond (eqb biased (2 ^ (width - prec) - 1))
     (cond (eqb trailing 0) (endless negative) NoNumber)
-    (cond (eqb biased 0)
-    (scaled prec negative trailing (exp-min width prec))
-    (scaled prec negative (2 ^ (prec - 1) + trailing) (pos biased -ℤ pos (exp-max width prec))))
+    (finite width prec negative biased trailing)
 
 abbrev pub float-of : ℕ → ℕ → ℕ → Reading
 float-of width prec bits = of-fields width prec (sign-of width bits) (biased-of width prec bits) (trailing-of prec bits)
