@@ -1,0 +1,4 @@
+pub mod Spellings
+pub mod Cuts
+pub mod Answers
+pub mod Tallies
