@@ -1,6 +1,6 @@
 -- What a fixed form's bits mean, and what building one answers.
 use mathlib.Core.Path.{_≡_}
-use mathlib.Core.Bool.{Bool, true, false, cond, _&&_}
+use mathlib.Core.Bool.{Bool, false, cond, _&&_}
 use Prim.Native.Nat.{ℕ, _-_, _^_}
 use lib.Dec.{ltb, leb}
 use lib.IntN.{ℤ, pos, _-ℤ_}

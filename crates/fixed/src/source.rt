@@ -1,5 +1,3 @@
-ghost use mathlib.Core.Path.{_≡_};
-ghost use Prim.Native.Nat.{ℕ};
 ghost use Rattle.fixed.specs.Fixeds.{Built, fixed-reads};
 use crate::form::Fixed;
 use crate::int_helper::neg_abs;
@@ -26,10 +24,7 @@ impl Fixed {
                 fraction,
             })
         } else {
-            Err(Refusal {
-                cause: Cause::UnlawfulForm,
-                depth: 0,
-            })
+            Err(Refusal::new(Cause::UnlawfulForm))
         }
     }
 }
@@ -42,10 +37,7 @@ pub impl Source for Fixed as FixedSource {
             let (negative, size) = neg_abs(self.signed, self.width, bits);
             Ok(Reading::Finite(Load::new(negative, size, self.fraction as i32)))
         } else {
-            Err(Refusal {
-                cause: Cause::BitsTooWide,
-                depth: 0,
-            })
+            Err(Refusal::new(Cause::BitsTooWide))
         }
     }
 }

@@ -1,21 +1,20 @@
 -- Every number of a lawful format is in range.
-use mathlib.Core.Path.{_≡_, refl, sym, ap, _∙_, subst}
+use mathlib.Core.Path.{_≡_, refl, sym, subst}
 use mathlib.Core.Bool.{Bool, true, false, cond}
-use Prim.Native.Nat.{ℕ, zero, suc, _+_, _-_, _*_, _/_, _%_, _^_, _<_, _≤_}
+use Prim.Native.Nat.{ℕ, zero, suc, _+_, _-_, _/_, _^_, _<_, _≤_}
 use native.Mathlib.Omega.{arith}
 use lib.Dec.{ltb, eqb}
-use lib.IntN.{ℤ, pos, negsuc, negℤ, natAbs, _-ℤ_}
+use lib.IntN.{ℤ, pos, negsuc, natAbs, _-ℤ_}
 use lib.Pow.{pow-mono}
 use lib.Signed.{_≤ℤ_}
 use Rattle.std.proofs.shelf.Bits.{pow-pos, mod-below}
 use Rattle.std.proofs.shelf.Signed.{ints}
-use Rattle.std.proofs.shelf.Tests.{eqb-true, eqb-false}
-use Rattle.std.specs.declared.result.Result.{Result}
+use Rattle.std.proofs.shelf.Tests.{eqb-false}
 use Rattle.std.specs.declared.result.Result.the-variants.{Ok, Err}
 use Rattle.forms.specs.declared.load.Reading.the-variants.{NoNumber}
 use Rattle.forms.specs.declared.refusal.Cause.the-variants.{BitsTooWide}
 use Rattle.forms.specs.Refusals.{refused}
-use Rattle.forms.specs.Loads.{signed, load-of, endless, Sound, Sound-reading, Sound-load}
+use Rattle.forms.specs.Loads.{signed, endless, Sound, Sound-reading}
 use Rattle.forms.proofs.Soundness.{sound-load-of}
 use Rattle.float.specs.Formats.{Lawful, exp-max, exp-min}
 use Rattle.float.specs.Floats.{sign-of, biased-of, trailing-of, scaled, of-fields, float-of, float-reads}

@@ -1,7 +1,6 @@
 -- What the bits of a binary floating-point format stand for, from IEEE 754 (3.4, binary interchange format encodings); bfloat16 is read likewise.
 -- From the highest bit down: the sign, width - prec bits of biased exponent, and prec - 1 bits of trailing significand.
-use mathlib.Core.Path.{_≡_}
-use mathlib.Core.Bool.{Bool, true, false, cond}
+use mathlib.Core.Bool.{Bool, cond}
 use Prim.Native.Nat.{ℕ, _+_, _-_, _/_, _%_, _^_}
 use lib.Dec.{leb, ltb, eqb}
 use lib.IntN.{ℤ, pos, _-ℤ_}
@@ -44,6 +43,7 @@ of-fields width prec negative biased trailing =
     (cond (eqb trailing 0) (endless negative) NoNumber)
     (finite width prec negative biased trailing)
 
+-- the reading of bits that the format has
 abbrev pub float-of : ℕ → ℕ → ℕ → Reading
 float-of width prec bits = of-fields width prec (sign-of width bits) (biased-of width prec bits) (trailing-of prec bits)
 

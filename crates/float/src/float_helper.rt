@@ -3,7 +3,7 @@ ghost use mathlib.Core.Path.{_≡_};
 ghost use mathlib.Core.Bool.{cond};
 ghost use Prim.Native.Nat.{_-_, _^_, _<_, _≤_};
 ghost use lib.Dec.{eqb};
-ghost use lib.IntN.{pos, negsuc, _-ℤ_};
+ghost use lib.IntN.{pos, negsuc};
 ghost use lib.Signed.{_≤ℤ_};
 ghost use Rattle.forms.specs.declared.load.Reading.the-variants.{NoNumber};
 ghost use Rattle.forms.specs.Loads.{endless};

@@ -1,9 +1,9 @@
-// Binary floating-point forms: f16, bf16, f32 and f64, which differ only in their width and precision.
-pub mod bfloat;
-pub mod float_helper;
-pub mod format;
-pub mod ieee;
-pub mod source;
+// Binary floating-point forms. A form is a way in which bits stand for loads; these are f16, bf16, f32 and f64, which differ only in their width and precision.
+mod bfloat;
+mod float_helper;
+mod format;
+mod ieee;
+mod source;
 
 pub use bfloat::Bf16;
 pub use bfloat::Bf16Format;

@@ -8,13 +8,14 @@ use forms::Refusal;
 use forms::Source;
 use forms::words;
 
-// A float form of one of the formats.
+// A float form, of a format that its type names.
 #[derive(Clone, Copy)]
 pub struct Float<F> {
     format: F,
 }
 
 impl<F> Float<F> {
+    // The form of a format.
     pub fn new(format: F) -> Float<F>
         ensures { λ r. ⌜ r .format ≡ format ⌝ }
     {
@@ -29,10 +30,7 @@ pub impl<F: Format> Source for Float<F> as FloatSource {
         if words::fits(bits, F::width_bits()) {
             Ok(kind(F::width_bits(), F::precision(), bits))
         } else {
-            Err(Refusal {
-                cause: Cause::BitsTooWide,
-                depth: 0,
-            })
+            Err(Refusal::new(Cause::BitsTooWide))
         }
     }
 }

@@ -1,12 +1,12 @@
 -- A load under a purchase layer is worth its factor times the load.
-use mathlib.Core.Path.{_≡_, refl, sym, ap, ap₂, _∙_, subst}
+use mathlib.Core.Path.{_≡_, refl, sym, ap, _∙_, subst}
 use mathlib.Core.Bool.{Bool, true, false, cond}
-use Prim.Native.Nat.{ℕ, zero, suc, _+_, _-_, _*_, _^_, _<_, _≤_}
+use Prim.Native.Nat.{ℕ, zero, suc, _+_, _-_, _*_, _^_}
 use native.Mathlib.Nat.{mul-assoc, mul-comm, mul-zero, zero-mul}
 use native.Mathlib.Omega.{arith}
 use lib.Dec.{eqb}
 use lib.IntN.{ℤ, pos, negsuc, negℤ, _-ℤ_, _*ℤ_}
-use lib.Signed.{ltZ, _≤ℤ_}
+use lib.Signed.{ltZ}
 use Rattle.std.proofs.shelf.Bits.{pow-add}
 use Rattle.std.proofs.shelf.Signed.{ints}
 use Rattle.std.proofs.shelf.Tests.{eqb-true}
@@ -14,7 +14,7 @@ use Rattle.std.specs.declared.result.Result.{Result}
 use Rattle.std.specs.declared.result.Result.the-variants.{Ok, Err}
 use Rattle.forms.specs.declared.load.Load.{Load}
 use Rattle.forms.specs.declared.load.Reading.{Reading}
-use Rattle.forms.specs.declared.load.Reading.the-variants.{NoNumber, EndlessUp, EndlessDown, Finite}
+use Rattle.forms.specs.declared.load.Reading.the-variants.{Finite}
 use Rattle.forms.specs.declared.purchase.Factor.{Factor}
 use Rattle.forms.specs.declared.refusal.Cause.the-variants.{ScaleTooLow}
 use Rattle.forms.specs.Refusals.{Refused, refused}

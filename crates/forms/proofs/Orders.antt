@@ -1,5 +1,5 @@
 -- How the worths of two loads compare: by their signs, and by their sizes once both stand at the finer scale.
-use mathlib.Core.Path.{_≡_, refl, sym, ap, ap₂, _∙_, subst}
+use mathlib.Core.Path.{_≡_, refl, sym, ap, ap₂, _∙_}
 use mathlib.Core.Logic.{⊎-elim}
 use mathlib.Core.Bool.{Bool, true, false, cond, not, Bool·beq}
 use Prim.Native.Nat.{ℕ, zero, suc, _+_, _-_, _*_, _^_, _<_, _≤_}
@@ -16,7 +16,7 @@ use Rattle.std.proofs.shelf.Signed.{ints}
 use Rattle.std.proofs.shelf.Tests.{cases-order, both-ways, false≢true, true≢false}
 use Rattle.std.proofs.shelf.Ways.{tells}
 use Rattle.forms.specs.declared.load.Load.{Load}
-use Rattle.forms.specs.declared.cmp.Comparison.the-variants.{Less, Equal, More, Unordered}
+use Rattle.forms.specs.declared.cmp.Comparison.the-variants.{Less, Equal, More}
 use Rattle.forms.specs.Loads.{nat-of, signed, weight, worth, Sound-load}
 use Rattle.forms.specs.Comparisons.{ordered, mirrored, is-equal}
 

@@ -1,14 +1,11 @@
 -- What shifts and masks of a 64-bit word keep and lose.
-use mathlib.Core.Path.{_≡_, refl, sym, ap, ap₂, _∙_}
-use mathlib.Core.Bool.{true}
-use mathlib.Core.Logic.{⊎-elim}
-use Prim.Native.Nat.{ℕ, _+_, _-_, _*_, _/_, _%_, _^_, _<_, _≤_, min}
+use mathlib.Core.Path.{_≡_, sym, ap, _∙_}
+use Prim.Native.Nat.{ℕ, _+_, _-_, _*_, _/_, _%_, _^_, _<_, _≤_}
 use native.Mathlib.Nat.{mod-eq-of-lt, mul-le-mul-right, one-mul}
 use lib.Dec.{leb, ltb}
 use lib.Pow.{pow-mono}
 use native.Mathlib.Omega.{arith}
 use Rattle.std.proofs.shelf.Bits.{pow-pos, field-of, shl-shr, mod-below, shl-below}
-use Rattle.std.proofs.shelf.Tests.{cases-lt}
 use Rattle.std.proofs.shelf.Ways.{tells}
 
 pub shl-kept : (a k : ℕ) → a * 2 ^ k < 2 ^ 64 → (a * 2 ^ k) % 2 ^ 64 ≡ a * 2 ^ k

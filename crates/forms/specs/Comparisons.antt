@@ -1,15 +1,9 @@
 -- How two readings compare.
-use mathlib.Core.Path.{_≡_}
 use mathlib.Core.Bool.{Bool, true, false, cond}
-use Prim.Native.Nat.{ℕ, _*_, _^_}
-use lib.Dec.{ltb}
 use lib.IntN.{ℤ}
 use lib.Signed.{ltZ}
-use Rattle.std.specs.declared.option.Option.{Option}
-use Rattle.std.specs.declared.option.Option.the-variants.{Some, None}
 use Rattle.std.specs.declared.result.Result.{Result}
 use Rattle.std.specs.declared.result.Result.the-variants.{Ok, Err}
-use Rattle.forms.specs.declared.load.Load.{Load}
 use Rattle.forms.specs.declared.load.Reading.{Reading}
 use Rattle.forms.specs.declared.load.Reading.the-variants.{NoNumber, EndlessUp, EndlessDown, Finite}
 use Rattle.forms.specs.declared.cmp.Comparison.{Comparison}
@@ -21,7 +15,7 @@ use Rattle.forms.specs.Loads.{worth}
 abbrev pub ordered : ℤ → ℤ → Comparison
 ordered x y = cond (ltZ x y) Less (cond (ltZ y x) More Equal)
 
--- of two readings: endless up is more than every load and equal to itself, endless down mirrors it, and no number is beside them all
+-- of two readings: endless up is more than every load and equal to itself, endless down mirrors it, and no number is unordered with everything, itself too
 abbrev pub against : Reading → Reading → Comparison
 against NoNumber y = Unordered
 against EndlessUp NoNumber = Unordered
@@ -43,13 +37,14 @@ compared (Err e) s = Err e
 compared (Ok x) (Err e) = Err e
 compared (Ok x) (Ok y) = Ok (against x y)
 
+-- whether it is equal
 abbrev pub is-equal : Comparison → Bool
 is-equal Less = false
 is-equal Equal = true
 is-equal More = false
 is-equal Unordered = false
 
--- whether a comparison says equal
+-- the answer of equality from that of comparison
 abbrev pub equality : Result Comparison Refused → Result Bool Refused
 equality (Err e) = Err e
 equality (Ok o) = Ok (is-equal o)
@@ -60,7 +55,3 @@ mirrored Less = More
 mirrored Equal = Equal
 mirrored More = Less
 mirrored Unordered = Unordered
-
--- a size moved up by k places, where 64 bits hold it
-abbrev pub aligned : ℕ → ℕ → Option ℕ
-aligned size k = cond (ltb (size * 2 ^ k) (2 ^ 64)) (Some (size * 2 ^ k)) None

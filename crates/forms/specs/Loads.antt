@@ -12,7 +12,7 @@ use Rattle.forms.specs.declared.load.Reading.{Reading}
 use Rattle.forms.specs.declared.load.Reading.the-variants.{NoNumber, EndlessUp, EndlessDown, Finite}
 use Rattle.forms.specs.Refusals.{Refused}
 
--- a whole number as a natural one, where it is not below 0
+-- a whole number as a natural one, and 0 for one below 0
 abbrev pub nat-of : ℤ → ℕ
 nat-of (pos n) = n
 nat-of (negsuc n) = 0

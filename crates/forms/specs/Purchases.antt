@@ -1,6 +1,6 @@
 -- A purchase layer, as a function on what the source under it reads.
 use mathlib.Core.Path.{_≡_}
-use mathlib.Core.Bool.{Bool, true, false, cond}
+use mathlib.Core.Bool.{cond}
 use Prim.Native.Nat.{ℕ, _^_}
 use lib.Dec.{eqb}
 use lib.IntN.{ℤ, pos, negsuc, _-ℤ_, _*ℤ_}
@@ -26,7 +26,7 @@ doublings Eight = 3
 abbrev pub times : Factor → ℕ
 times f = 2 ^ doublings f
 
--- the factor that is the number n
+-- the factor that is the number n, and a refusal where there is none
 abbrev pub factor-of : ℕ → Result Factor Refused
 factor-of n =
     cond (eqb n 2) (Ok Two) (cond (eqb n 4) (Ok Four) (cond (eqb n 8) (Ok Eight) (Err (refused UnlawfulFactor))))
@@ -35,7 +35,7 @@ factor-of n =
 abbrev pub raised : Factor → Load → Load
 raised f l = record { negative = l .negative; size = l .size; scale = l .scale -ℤ pos (doublings f) }
 
--- a load under the layer: 0 passes, and no scale goes below -1,000
+-- a load under the layer: 0 passes as it is, and a scale that would go below -1,000 is refused
 abbrev pub raise-load : Factor → Load → Result Reading Refused
 raise-load f l =
     cond (eqb (l .size) 0) (Ok (Finite l))
@@ -49,7 +49,7 @@ layered f (Ok EndlessUp) = Ok EndlessUp
 layered f (Ok EndlessDown) = Ok EndlessDown
 layered f (Ok (Finite l)) = raise-load f l
 
--- the worth of the loads that two readings are, where both are loads: the second counts so many times the first
+-- where below and above are both loads, the load above is worth n times the load below
 abbrev pub Counts : ℕ → Result Reading Refused → Result Reading Refused → Type 0
 Counts n below above =
     (l m : Load) → below ≡ Ok (Finite l) → above ≡ Ok (Finite m) → worth m ≡ pos n *ℤ worth l

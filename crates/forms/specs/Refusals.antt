@@ -1,5 +1,4 @@
 -- The numbers of refusals, and what an answer tells of a refusal: its number and its depth.
-use mathlib.Core.Path.{_≡_}
 use Prim.Native.Nat.{ℕ, _+_, min}
 use Rattle.std.specs.declared.result.Result.{Result}
 use Rattle.std.specs.declared.result.Result.the-variants.{Ok, Err}
@@ -32,7 +31,7 @@ refused c = record { number = number-of c; depth = 0 }
 abbrev pub deeper : Refused → Refused
 deeper r = record { number = r .number; depth = min (r .depth + 1) 65535 }
 
--- an answer, its refusal told by number and depth
+-- an answer of the code, its refusal told by number and depth
 abbrev pub told : {A : Type 0} → Result A Refusal → Result A Refused
 told (Ok x) = Ok x
 told (Err e) = Err (record { number = number-of (e .cause); depth = e .depth })

@@ -1,19 +1,21 @@
-// The comparison of loads that come in different forms, each as a sign, a size and a scale: ported from cmp.rs of the Rust crate `fixed`.
-// Its `Value` is a `Load` here, and every size has 64 bits.
+// The comparison of readings, whatever forms they come in: ported from cmp.rs of the Rust crate `fixed`. Its `Value` is a `Load` here, and every size
+// has 64 bits. The names that begin with `float` are the crate's, which compares a fixed number with a float; here both sides may be either.
 ghost use mathlib.Core.Path.{_≡_};
-ghost use Prim.Native.Nat.{_*_, _^_};
+ghost use Prim.Native.Nat.{_*_, _^_, _≤_};
 ghost use lib.Dec.{eqb};
 ghost use lib.IntN.{pos};
 ghost use lib.Signed.{_≤ℤ_};
+ghost use Rattle.std.specs.declared.option.Option.the-variants.{Some, None};
+ghost use Rattle.forms.specs.declared.load.Reading.{Reading};
 ghost use Rattle.forms.specs.Refusals.{told};
 ghost use Rattle.forms.specs.Loads.{Sound-load, Sound-reading, worth};
-ghost use Rattle.forms.specs.Comparisons.{ordered, against, compared, equality, is-equal, mirrored, aligned};
+ghost use Rattle.forms.specs.Comparisons.{ordered, against, compared, equality, is-equal, mirrored};
 use crate::load::Load;
 use crate::load::Reading;
 use crate::refusal::Refusal;
 use crate::source::Source;
 
-// How one load stands to another; unordered where either side is no number.
+// How one reading stands to another; unordered where either is no number.
 #[derive(Clone, Copy, PartialEq, Eq)]
 pub enum Comparison {
     Less,
@@ -25,7 +27,8 @@ pub enum Comparison {
 impl Comparison {
     // The comparison with left and right exchanged.
     pub fn reverse(self) -> Comparison
-        ensures { λ r. ⌜ r ≡ mirrored self ⌝ }
+        ensures value { λ r. ⌜ r ≡ mirrored self ⌝ }
+        ensures exchanged { λ r. ⌜ ((x y : Reading) → self ≡ against x y → r ≡ against y x) ⌝ }
     {
         match self {
             Comparison::Less => Comparison::More,
@@ -38,7 +41,7 @@ impl Comparison {
 
 // The right size moved up to the left load's scale; none where 64 bits do not hold it.
 fn float_rhs_shl(rhs_size: u64, rhs_shl: u32) -> Option<u64>
-    ensures { λ r. ⌜ r ≡ aligned «rhs_size» «rhs_shl» ⌝ }
+    ensures { λ r. ⌜ elim r [ Some size ↦ size ≡ «rhs_size» * 2 ^ «rhs_shl» | None ↦ 2 ^ 64 ≤ «rhs_size» * 2 ^ «rhs_shl» ] ⌝ }
 {
     if rhs_size == 0 {
         return Some(0);

@@ -9,7 +9,7 @@ use crate::refusal::Cause;
 use crate::refusal::Refusal;
 use crate::source::Source;
 
-// How many times a load counts under a purchase, the rope rove double.
+// The factor of a purchase: a rope rove double, twice double or thrice double, under which a load counts 2, 4 or 8 times.
 #[derive(Clone, Copy, PartialEq, Eq)]
 pub enum Factor {
     Two,
@@ -26,15 +26,12 @@ impl Factor {
             2 => Ok(Factor::Two),
             4 => Ok(Factor::Four),
             8 => Ok(Factor::Eight),
-            _ => Err(Refusal {
-                cause: Cause::UnlawfulFactor,
-                depth: 0,
-            }),
+            _ => Err(Refusal::new(Cause::UnlawfulFactor)),
         }
     }
 
     // The factor is two to this power.
-    pub fn doublings(self) -> u8
+    fn doublings(self) -> u8
         ensures { λ r. ⌜ r ≡ doublings self ⌝ }
     {
         match self {
@@ -48,6 +45,7 @@ impl Factor {
 // A purchase layer: a source of readings whose every load counts 2, 4 or 8 times that of the source which it holds.
 #[derive(Drop)]
 pub struct Purchase<S> {
+    // what is below the layer
     source: S,
     factor: Factor,
 }
@@ -72,10 +70,7 @@ fn raise_load(factor: Factor, load: Load) -> Result<Reading, Refusal>
     }
     let scale = load.scale - factor.doublings() as i32;
     if scale < -1000 {
-        return Err(Refusal {
-            cause: Cause::ScaleTooLow,
-            depth: 0,
-        });
+        return Err(Refusal::new(Cause::ScaleTooLow));
     }
     Ok(Reading::Finite(Load {
         negative: load.negative,
@@ -104,10 +99,7 @@ pub impl<S: Source> Source for Purchase<S> as PurchaseSource {
     {
         match self.source.read(bits) {
             Ok(reading) => raise(self.factor, reading),
-            Err(refusal) => Err(Refusal {
-                cause: refusal.cause,
-                depth: refusal.depth.saturating_add(1),
-            }),
+            Err(refusal) => Err(refusal.deeper()),
         }
     }
 }

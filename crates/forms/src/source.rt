@@ -15,6 +15,7 @@ pub trait Source {
     // every load read is in range, and zero is plain
     law sound: { (s : Self) (bits : ℕ) → Sound (reads s bits) };
 
+    // What these bits stand for.
     fn read(&self, bits: u64) -> Result<Reading, Refusal>
         ensures value { λ r. ⌜ told r ≡ reads (now (self .entry)) bits ⌝ };
 }

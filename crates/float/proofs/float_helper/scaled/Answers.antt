@@ -1,13 +1,10 @@
-use mathlib.Core.Path.{_≡_, ap, _∙_}
+use mathlib.Core.Path.{ap, _∙_}
 use Prim.Native.Nat.{_-_}
 use native.Mathlib.Omega.{arith}
-use lib.IntN.{pos, _-ℤ_}
-use mir.Syntax.{w32}
-use mir.Val.{toZ, ofZ}
 use Rattle.std.proofs.shelf.Signed.{ints}
 use Rattle.forms.specs.declared.load.Reading.the-variants.{Finite}
 use Rattle.forms.specs.Loads.{signed, load-of}
 use Rattle.float.proofs.float_helper.scaled.Needs as need
 
 pub returns : need.returns
-returns c = ap Finite (c .new .ensures ∙ ap (load-of (signed (c .args .neg) (c .args .mant))) (omega (arith, ints)))
+returns c = ap Finite (c .new .ensures .made ∙ ap (load-of (signed (c .args .neg) (c .args .mant))) (omega (arith, ints)))
