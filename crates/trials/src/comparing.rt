@@ -11,11 +11,11 @@ use float::F64Format;
 use float::Float;
 use float::FloatSource;
 use forms::Comparison;
+use forms::PurchaseSource;
 use forms::Source;
 use forms::cmp::ComparisonPartialEq;
 use forms::cmp::compare;
 use forms::cmp::equal;
-use forms::purchase::PurchaseSource;
 use std::test::*;
 
 // Both directions, and equality in both.

@@ -13,9 +13,9 @@ use float::Float;
 use float::FloatSource;
 use forms::Load;
 use forms::Purchase;
+use forms::PurchaseSource;
 use forms::Reading;
 use forms::Source;
-use forms::purchase::PurchaseSource;
 use std::test::*;
 
 // The load that is read, if one is.

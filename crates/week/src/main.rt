@@ -12,11 +12,11 @@ use float::F64Format;
 use float::Float;
 use float::FloatSource;
 use forms::Purchase;
+use forms::PurchaseSource;
 use forms::Refusal;
 use forms::Source;
 use forms::cmp::compare;
 use forms::cmp::equal;
-use forms::purchase::PurchaseSource;
 use std::io;
 use text::AmountDisplay;
 use text::Reason;
@@ -65,7 +65,12 @@ fn tell<S: Source>(rt: &LibcRuntime, source: &S, bits: u64, plate: &Plate) -> Re
         }
         Err(refusal) => {
             let reason = Reason(refusal);
+            let depth = refusal.depth;
             println!(rt, "  Not read: {reason}.")?;
+            println!(
+                rt,
+                "  Purchase layers that the refusal came up through: {depth}."
+            )?;
             println!(
                 rt,
                 "  The message is thrown away, and the cell is asked again."
@@ -79,18 +84,20 @@ fn tell<S: Source>(rt: &LibcRuntime, source: &S, bits: u64, plate: &Plate) -> Re
 // Two cells on one load: an old one at the motor, and a newer one on the doubled rope.
 fn one_load(rt: &LibcRuntime, plate: &Plate) -> Result<(), Stop> {
     let old = Fixed::new(true, 16, 8)?;
+    let sent = 0x0c80;
     println!(
         rt,
-        "The old cell sends 0c80: signed, 16 bits, 8 of them after the point."
+        "The old cell sends {sent:04x}: signed, 16 bits, 8 of them after the point."
     )?;
-    tell(rt, &old, 0x0c80, plate)?;
+    tell(rt, &old, sent, plate)?;
     let newer = Purchase::new(Float::new(F32), 2)?;
+    let also = 0x40c80000;
     println!(
         rt,
-        "A newer cell sends the f32 40c80000 under a rope rove double, so its load counts 2 times."
+        "A newer cell sends the f32 {also:08x} under a rope rove double, so its load counts 2 times."
     )?;
-    tell(rt, &newer, 0x40c80000, plate)?;
-    let same = equal(&old, 0x0c80, &newer, 0x40c80000)?;
+    tell(rt, &newer, also, plate)?;
+    let same = equal(&old, sent, &newer, also)?;
     let answer = if same { "Yes" } else { "No" };
     println!(rt, "Do both cells mean the same load? {answer}.")?;
     println!(rt, "")?;
@@ -100,18 +107,22 @@ fn one_load(rt: &LibcRuntime, plate: &Plate) -> Result<(), Stop> {
 // What can be wrong with a message.
 fn troubles(rt: &LibcRuntime, plate: &Plate) -> Result<(), Stop> {
     let byte = Purchase::new(Fixed::new(true, 8, 0)?, 2)?;
+    let damaged = 0x100;
     println!(
         rt,
-        "A message comes in damaged: 100 where 8 bits are due, under a rope rove double."
+        "A message comes in damaged: {damaged:x} where 8 bits are due, under a rope rove double."
     )?;
-    tell(rt, &byte, 0x100, plate)?;
+    tell(rt, &byte, damaged, plate)?;
     let half = Float::new(F16);
-    println!(rt, "A wet plug: the half-width float 7e00.")?;
-    tell(rt, &half, 0x7e00, plate)?;
-    println!(rt, "A heavy pick: the half-width float 4b00.")?;
-    tell(rt, &half, 0x4b00, plate)?;
-    println!(rt, "Someone asks for a purchase of 3.")?;
-    match Purchase::new(half, 3) {
+    let wet = 0x7e00;
+    println!(rt, "A wet plug: the f16 {wet:04x}.")?;
+    tell(rt, &half, wet, plate)?;
+    let heavy = 0x4b00;
+    println!(rt, "A heavy pick: the f16 {heavy:04x}.")?;
+    tell(rt, &half, heavy, plate)?;
+    let factor = 3;
+    println!(rt, "Someone asks for a purchase of {factor}.")?;
+    match Purchase::new(half, factor) {
         Ok(_) => println!(rt, "  It is rove.")?,
         Err(refusal) => {
             let reason = Reason(refusal);
@@ -128,8 +139,9 @@ fn week(rt: &LibcRuntime) -> Result<(), Stop> {
     };
     println!(rt, "ONE MESSAGE'S WEEK: MONDAY")?;
     println!(rt, "")?;
-    println!(rt, "The motor's plate is the f64 402a000000000000.")?;
-    let most = Told(plate.form.read(plate.bits)?);
+    let bits = plate.bits;
+    println!(rt, "The motor's plate is the f64 {bits:016x}.")?;
+    let most = Told(plate.form.read(bits)?);
     println!(rt, "  Read: {most}.")?;
     println!(rt, "")?;
     one_load(rt, &plate)?;
