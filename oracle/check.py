@@ -5,7 +5,9 @@
 
 Takes nothing from the crate: floats are read by the rule of IEEE 754 from
 their width and precision alone, and numbers are compared as fractions.
-Prints how often each answer occurs. At the first line that differs, or that
+A line behind `not` must have another answer than the recomputed one, well
+formed and with just one part altered. Prints how often each answer and each
+altered part occurs. At the first line that is not as it should be, or that
 stands there twice, it prints that line and exits with 1.
 """
 
@@ -17,6 +19,9 @@ from fractions import Fraction
 FLOATS = {"f16": (16, 11), "bf16": (16, 8), "f32": (32, 24), "f64": (64, 53)}
 
 WIDTHS = (8, 16, 32, 64)
+
+# What an altered line begins with.
+ALTERED = "not "
 
 
 def decimal(word):
@@ -124,32 +129,121 @@ KINDS = {
 }
 
 
-def recomputed(line):
-    """The line with its answer recomputed."""
-    words = line.split(" ")
-    length, answer = KINDS[words[0]]
-    question = words[: 1 + length]
-    return " ".join(question + [answer(question[1:])])
+# The words of an answer, and the parts of one with several words.
+SIGNS = ("+", "-")
+ORDERS = tuple(MIRRORED)
+EQUALITIES = ("eq", "ne")
+PARTS = {
+    "kind": ("word", "sign", "size", "scale"),
+    "neg_abs": ("sign", "size"),
+    "compare": ("A", "B", "EQ1", "EQ2"),
+}
 
 
-def tally_name(line):
-    """The kind of the line and the first word of its answer."""
+def is_size(word):
+    """Whether a word is a size of at most 64 bits."""
+    return word == format(int(word, 16), "x") and int(word, 16) < 1 << 64
+
+
+def is_scale(word):
+    """Whether a word is a scale of 32 bits."""
+    return -(1 << 31) <= decimal(word) < 1 << 31
+
+
+def kind_is_well_formed(words):
+    if words[0] == "finite":
+        _, sign, size, scale = words
+        return sign in SIGNS and is_size(size) and is_scale(scale)
+    if words[0] == "infinite":
+        _, sign = words
+        return sign in SIGNS
+    return words == ["nan"]
+
+
+def neg_abs_is_well_formed(words):
+    sign, size = words
+    return sign in SIGNS and is_size(size)
+
+
+def compare_is_well_formed(words):
+    a, b, eq1, eq2 = words
+    return a in ORDERS and b in ORDERS and eq1 in EQUALITIES and eq2 in EQUALITIES
+
+
+WELL_FORMED = {
+    "kind": kind_is_well_formed,
+    "neg_abs": neg_abs_is_well_formed,
+    "compare": compare_is_well_formed,
+}
+
+
+def split(line):
+    """The kind, the words of the question, and those of the answer."""
     words = line.split(" ")
-    return f"{words[0]} {words[1 + KINDS[words[0]][0]]}"
+    length, _ = KINDS[words[0]]
+    return words[0], words[1 : 1 + length], words[1 + length :]
+
+
+def right_answer(kind, question):
+    """The words of the recomputed answer."""
+    _, answer = KINDS[kind]
+    return answer(question).split(" ")
+
+
+def part_altered(kind, right, said):
+    """The one part in which an answer is altered. If that is the word for
+    what a float is, only a sign that both answers have must be the same."""
+    parts = PARTS[kind]
+    if kind == "kind" and right[0] != said[0]:
+        right, said = right[:2], said[:2]
+    altered = [part for part, a, b in zip(parts, right, said) if a != b]
+    if len(altered) != 1:
+        raise ValueError(f"{len(altered)} parts are altered")
+    return altered[0]
+
+
+def check_right(line):
+    """The kind of a line and the first word of its answer, which must be the
+    recomputed one."""
+    kind, question, said = split(line)
+    right = right_answer(kind, question)
+    if said != right:
+        raise ValueError(f"should be {' '.join(right)}")
+    return kind, said[0]
+
+
+def check_altered(line):
+    """The kind of a line behind `not` and the part that is altered."""
+    kind, question, said = split(line)
+    right = right_answer(kind, question)
+    if not WELL_FORMED[kind](said):
+        raise ValueError("malformed")
+    if said == right:
+        raise ValueError("is the recomputed answer")
+    return kind, part_altered(kind, right, said)
+
+
+def check_line(line):
+    """The names under which a line is counted."""
+    if line.startswith(ALTERED):
+        kind, part = check_altered(line.removeprefix(ALTERED))
+        return "not", f"not {kind}", f"not {kind} {part}"
+    kind, word = check_right(line)
+    return kind, f"{kind} {word}"
 
 
 def check(lines):
     """Counts of the answers; raises ValueError at the first bad line."""
     seen, tally = set(), Counter()
     for number, line in enumerate(lines, start=1):
-        expected = recomputed(line)
-        if line != expected:
-            raise ValueError(f"line {number} differs\n  says:   {line}\n  should: {expected}")
+        try:
+            names = check_line(line)
+        except (ValueError, KeyError, IndexError) as problem:
+            raise ValueError(f"line {number}: {line}\n  {problem}") from problem
         if line in seen:
             raise ValueError(f"line {number} stands there twice: {line}")
         seen.add(line)
-        tally[line.split(" ")[0]] += 1
-        tally[tally_name(line)] += 1
+        tally.update(names)
     return tally
 
 
@@ -161,10 +255,11 @@ def main():
         lines = file.read().removesuffix("\n").split("\n")
     try:
         tally = check(lines)
-    except (ValueError, KeyError, IndexError) as problem:
+    except ValueError as problem:
         print(problem)
         return 1
-    print(f"{len(lines)} lines, all as recomputed")
+    altered = tally["not"]
+    print(f"{len(lines)} lines: {len(lines) - altered} as recomputed, {altered} altered")
     for name, count in sorted(tally.items()):
         print(f"{count:6} {name}")
     return 0

@@ -9,6 +9,7 @@ use core::cmp::Ordering;
 use half::{bf16 as half_bf16, f16 as half_f16};
 
 /// What a float is, as the crate reads it.
+#[derive(Clone, Copy)]
 pub enum Kind {
     Nan,
     Infinite { negative: bool },
@@ -16,6 +17,7 @@ pub enum Kind {
 }
 
 /// A fixed number against a float and the float against the fixed number.
+#[derive(Clone, Copy)]
 pub struct Comparison {
     pub fixed_to_float: Option<Ordering>,
     pub float_to_fixed: Option<Ordering>,

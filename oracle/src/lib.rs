@@ -2,11 +2,12 @@
 //!
 //! Five of the crate's files are compiled unchanged from the folder named by
 //! `FIXED_SRC` (see `build.rs`). They give every answer. The other modules
-//! hold up these files (`stand_ins`), call them (`drive`), read and write
-//! lines (`line`) and choose the questions of the list (`list`).
+//! hold up these files (`stand_ins`), call them (`drive`), read questions and
+//! write lines (`line`, `answer`) and choose the lines of the list (`list`).
 
 include!(concat!(env!("OUT_DIR"), "/crate_files.rs"));
 
+mod answer;
 mod drive;
 mod float;
 mod form;

@@ -1,21 +1,36 @@
 //! Lines of the list: a question, and the crate's answer behind it.
 //!
 //! Each kind of line has one function here, named after its first word, that
-//! reads the words of the question and gives the words of the answer.
+//! reads the words of the question and asks the crate.
 
-use crate::drive::{self, Kind};
+use crate::answer::Answer;
+use crate::drive;
 use crate::float::Float;
 use crate::form::Form;
-use core::cmp::Ordering;
+use core::fmt;
 use std::panic::catch_unwind;
 use std::str::Split;
 
-/// The whole line to a question: the question with the crate's answer.
-pub fn complete(question: &str) -> Result<String, String> {
-    catch_unwind(|| answer(question))
-        .unwrap_or_else(|_| Err("the crate panics".to_string()))
-        .map(|answer| format!("{question} {answer}"))
-        .map_err(|problem| format!("`{question}`: {problem}"))
+/// A question and an answer to it.
+pub struct Line {
+    pub question: String,
+    pub answer: Answer,
+}
+
+impl fmt::Display for Line {
+    fn fmt(&self, f: &mut fmt::Formatter) -> fmt::Result {
+        write!(f, "{} {}", self.question, self.answer)
+    }
+}
+
+/// The line to a question: the question with the crate's answer.
+pub fn complete(question: String) -> Result<Line, String> {
+    let answer =
+        catch_unwind(|| answer(&question)).unwrap_or_else(|_| Err("the crate panics".to_string()));
+    match answer {
+        Ok(answer) => Ok(Line { question, answer }),
+        Err(problem) => Err(format!("`{question}`: {problem}")),
+    }
 }
 
 /// Bits of that width as lines show them.
@@ -29,7 +44,7 @@ pub fn signedness(signed: bool) -> char {
     if signed { 'i' } else { 'u' }
 }
 
-fn answer(question: &str) -> Result<String, String> {
+fn answer(question: &str) -> Result<Answer, String> {
     let mut words = Words(question.split(' '));
     match words.next()? {
         "kind" => kind(words),
@@ -40,63 +55,32 @@ fn answer(question: &str) -> Result<String, String> {
 }
 
 /// `kind FLOAT BITS`
-fn kind(mut words: Words) -> Result<String, String> {
+fn kind(mut words: Words) -> Result<Answer, String> {
     let float = words.float()?;
     let bits = words.bits(float.width())?;
     words.end()?;
-    Ok(match drive::kind(float, bits) {
-        Kind::Nan => "nan".to_string(),
-        Kind::Infinite { negative } => format!("infinite {}", sign(negative)),
-        Kind::Finite(load) => {
-            let sign = sign(load.negative);
-            format!("finite {sign} {:x} {}", load.size, load.scale)
-        }
-    })
+    Ok(Answer::Kind(drive::kind(float, bits)))
 }
 
 /// `neg_abs i|u WIDTH BITS`
-fn neg_abs(mut words: Words) -> Result<String, String> {
+fn neg_abs(mut words: Words) -> Result<Answer, String> {
     let signed = words.signedness()?;
     let width = words.number()?;
     let bits = words.bits(width)?;
     words.end()?;
     let (negative, size) = drive::neg_abs(signed, width, bits).ok_or("no such width")?;
-    Ok(format!("{} {size:x}", sign(negative)))
+    Ok(Answer::NegAbs { negative, size })
 }
 
 /// `compare i|u WIDTH FRACTION BITS FLOAT BITS`
-fn compare(mut words: Words) -> Result<String, String> {
+fn compare(mut words: Words) -> Result<Answer, String> {
     let form = words.form()?;
     let fixed = words.bits(form.width)?;
     let float = words.float()?;
     let bits = words.bits(float.width())?;
     words.end()?;
     let calls = drive::calls(form, float).ok_or("no such form")?;
-    let found = (calls.compare)(fixed, bits);
-    Ok(format!(
-        "{} {} {} {}",
-        order(found.fixed_to_float),
-        order(found.float_to_fixed),
-        equality(found.fixed_equals_float),
-        equality(found.float_equals_fixed),
-    ))
-}
-
-fn sign(negative: bool) -> char {
-    if negative { '-' } else { '+' }
-}
-
-fn order(order: Option<Ordering>) -> &'static str {
-    match order {
-        Some(Ordering::Less) => "less",
-        Some(Ordering::Equal) => "equal",
-        Some(Ordering::Greater) => "more",
-        None => "none",
-    }
-}
-
-fn equality(equal: bool) -> &'static str {
-    if equal { "eq" } else { "ne" }
+    Ok(Answer::Compare((calls.compare)(fixed, bits)))
 }
 
 /// The words of a question that are not read yet.

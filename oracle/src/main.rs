@@ -21,19 +21,23 @@ fn run() -> Result<(), String> {
         return Err("call me with one word, list or answer".to_string());
     };
     match command.as_str() {
-        "list" => complete_all(list::questions().into_iter().map(Ok)),
-        "answer" => complete_all(io::stdin().lines()),
+        "list" => print_all(list::lines()?.into_iter().map(Ok)),
+        "answer" => print_all(io::stdin().lines().map(completed)),
         other => Err(format!("`{other}` is neither list nor answer")),
     }
 }
 
-/// Prints each question completed.
-fn complete_all(questions: impl Iterator<Item = io::Result<String>>) -> Result<(), String> {
+/// The line to a question that was read.
+fn completed(question: io::Result<String>) -> Result<String, String> {
+    let question = question.map_err(|problem| problem.to_string())?;
+    Ok(line::complete(question)?.to_string())
+}
+
+/// Prints each line, and stops at the first problem.
+fn print_all(lines: impl Iterator<Item = Result<String, String>>) -> Result<(), String> {
     let mut out = BufWriter::new(io::stdout().lock());
-    for question in questions {
-        let question = question.map_err(|problem| problem.to_string())?;
-        let line = line::complete(&question)?;
-        writeln!(out, "{line}").map_err(|problem| problem.to_string())?;
+    for line in lines {
+        writeln!(out, "{}", line?).map_err(|problem| problem.to_string())?;
     }
     out.flush().map_err(|problem| problem.to_string())
 }

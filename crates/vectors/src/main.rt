@@ -1,4 +1,4 @@
-// Replays a list of another implementation's answers against the forms, and says for each kind of line how many there are and how many agree.
+// Replays a list of another implementation's answers against the forms, and says for each kind of line how many there are and how many agree, and how many altered lines there are and are refused.
 pub mod answers;
 pub mod line;
 pub mod replay;
@@ -10,10 +10,10 @@ use crate::tally::TallyDisplay;
 use std::io;
 use std::io::Read;
 
-// So many of the lines that do not agree are printed.
+// So many of the lines that are not as they should be are printed.
 const SHOWN: usize = 20;
 
-// The tally of a list; the first lines that do not agree are printed.
+// The tally of a list; the first lines that are not as they should be are printed.
 fn replay_all(rt: &impl Print, list: &str) -> io::Result<Tally> {
     let mut tally = Tally::new();
     let mut shown = 0;

@@ -116,11 +116,20 @@ fn agrees(line: &str) -> Result<(LineKind, bool), Malformed> {
     }
 }
 
+// What becomes of a line that is not malformed; before an altered one stands `not`.
+fn judged(line: &str) -> Result<Verdict, Malformed> {
+    let (altered, told) = match line.strip_prefix("not ") {
+        Some(told) => (true, told),
+        None => (false, line),
+    };
+    let (kind, agrees) = agrees(told)?;
+    Ok(Verdict::judged(altered, kind, agrees))
+}
+
 // What becomes of a line.
 pub fn verdict_of(line: &str) -> Verdict {
-    match agrees(line) {
-        Ok((kind, true)) => Verdict::Agrees(kind),
-        Ok((kind, false)) => Verdict::Differs(kind),
+    match judged(line) {
+        Ok(verdict) => verdict,
         Err(Malformed) => Verdict::Malformed,
     }
 }
