@@ -16,6 +16,7 @@ use Rattle.std.proofs.shelf.Signed.{ints}
 use Rattle.std.proofs.shelf.Tests.{cases-order, both-ways, false≢true, true≢false}
 use Rattle.std.proofs.shelf.Ways.{tells}
 use Rattle.forms.specs.declared.load.Load.{Load}
+use Rattle.forms.specs.declared.cmp.Comparison.{Comparison}
 use Rattle.forms.specs.declared.cmp.Comparison.the-variants.{Less, Equal, More}
 use Rattle.forms.specs.Loads.{nat-of, signed, weight, worth, Sound-load}
 use Rattle.forms.specs.Comparisons.{ordered, mirrored, is-equal}
@@ -126,3 +127,9 @@ same-sign false true e = absurd (true≢false e)
 pub equal-mirrored : (b : Bool) (m n : ℕ) → is-equal (cond b (mirrored (ordered (pos m) (pos n))) (ordered (pos m) (pos n))) ≡ eqb m n
 equal-mirrored false m n = equal-sizes m n
 equal-mirrored true m n = grind (arith, tells)
+
+-- what the comparison of the sizes, taken as the code takes it, says of two loads of one sign
+pub ordered-by-sizes : (l r : Load) (o : Comparison) → Sound-load l → Sound-load r → r .scale ≤ℤ l .scale → not (Bool·beq (l .negative) (r .negative)) ≡ false → o ≡ ordered (pos (l .size)) (pos (r .size * 2 ^ natAbs (toZ w32 (ofZ w32 (toZ w32 (ofZ w32 (l .scale)) -ℤ toZ w32 (ofZ w32 (r .scale))))))) → ordered (worth l) (worth r) ≡ cond (l .negative) (mirrored o) o
+ordered-by-sizes l r o s t h d e =
+    let q : o ≡ ordered (pos (l .size)) (pos (moved l r)) = e ∙ ap (λ x. ordered (pos (l .size)) (pos x)) (moved-is l r s t h) in
+    ordered-aligned l r s h (same-sign (l .negative) (r .negative) d) ∙ ap (λ x. cond (l .negative) (mirrored x) x) (sym q)
