@@ -18,7 +18,6 @@ use forms::Source;
 use forms::cmp::compare;
 use forms::cmp::equal;
 use std::io;
-use text::AmountDisplay;
 use text::Reason;
 use text::ReasonDisplay;
 use text::Told;
