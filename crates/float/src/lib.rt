@@ -1,4 +1,6 @@
 // Binary floating-point forms: f16, bf16, f32 and f64, which differ only in their width and precision.
+#![tactic(auto)]
+
 mod bfloat;
 mod float_helper;
 mod format;

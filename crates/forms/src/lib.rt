@@ -1,5 +1,7 @@
 // What a load cell's bits mean, whatever the form they come in: loads, readings and refusals, the trait of a source of readings, the purchase layer
 // over any source, and the comparison of what two sources read; the trait of a form, which writes too, and conversion from any source into any form.
+#![tactic(auto)]
+
 pub mod cmp;
 pub mod convert;
 pub mod direction;

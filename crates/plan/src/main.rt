@@ -1,4 +1,6 @@
 // What is left of three loads in the office's plan, told in plain text.
+#![tactic(auto)]
+
 mod text;
 
 use fixed::Fixed;

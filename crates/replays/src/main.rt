@@ -1,5 +1,7 @@
 // Replays a list of answers that others gave against the forms, and says for each kind of line how many there are and how many agree, and
 // how many altered lines there are and are refused.
+#![tactic(auto)]
+
 pub mod answers;
 pub mod conversions;
 pub mod line;

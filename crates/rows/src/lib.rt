@@ -1,4 +1,6 @@
 // Conversions and comparisons that were worked out by hand, proved of the definitions all together.
+#![tactic(auto)]
+
 ghost use Rattle.std.specs.Prelude.{◌≡◌, length};
 ghost use Rattle.rows.specs.Rows.{Hold, table};
 

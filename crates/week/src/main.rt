@@ -1,4 +1,6 @@
 // One message's week, told in plain text: what a cell sent, what load it means, and what that is against the motor's plate.
+#![tactic(auto)]
+
 mod text;
 
 use fixed::Fixed;

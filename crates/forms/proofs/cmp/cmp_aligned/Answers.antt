@@ -14,10 +14,10 @@ returns-else-lhs c =
 
 pub returns-then-lhs-2 : goal.returns-then-lhs-2
 returns-then-lhs-2 c =
-    let o = ordered_by_sizes c.args.lhs c.args.rhs _ c.requires.left c.requires.right c.requires.finer c.if-lhs-rhs.false c.cmp-sizes-sizes.ensures in
+    let o = ordered_by_sizes c.args.lhs c.args.rhs _ c.requires.left c.requires.right c.requires.finer c.if-lhs-rhs.false c.cmp_sizes-sizes.ensures in
     c.reverse.ensures.value ∙ sym (o ∙ cond-true c.args.lhs.negative _ _ c.if-lhs-2.true)
 
 pub returns-else-lhs-2 : goal.returns-else-lhs-2
 returns-else-lhs-2 c =
-    let o = ordered_by_sizes c.args.lhs c.args.rhs _ c.requires.left c.requires.right c.requires.finer c.if-lhs-rhs.false c.cmp-sizes-sizes.ensures in
+    let o = ordered_by_sizes c.args.lhs c.args.rhs _ c.requires.left c.requires.right c.requires.finer c.if-lhs-rhs.false c.cmp_sizes-sizes.ensures in
     sym (o ∙ cond-false c.args.lhs.negative _ _ c.if-lhs-2.false)

@@ -19,6 +19,6 @@ returns c =
     let r = c.args.rhs in
     let s = same_sign l.negative r.negative c.if-lhs-rhs.false in
     let o = ordered_aligned l r c.requires.left c.requires.finer s in
-    c.eq-sizes.ensures
+    c.eq_sizes.ensures
     ∙ ap (eqb l.size) (moved_is l r c.requires.left c.requires.right c.requires.finer)
     ∙ sym (ap is_equal o ∙ equal_mirrored l.negative l.size (moved l r))

@@ -22,5 +22,5 @@ returns-else-load-eq0 g c =
     let f = form_of (g.F.Source.reads c.args.form.now) (g.F.Form.writing c.args.form.now) in
     let h = mul-pos {m = l.size} (omega arith) (pow_pos (nat_of (pos 1074 -ℤ l.scale))) in
     let p = plain_signed f l.negative (weight l) h in
-    let v : c.write-into.result ≡ plain f (worth l) = cc in
+    let v : c.write_into.result ≡ plain f (worth l) = cc in
     record { value = v; nearest = subst (NearestAnswer f (worth l)) (sym v) (plain_nearest f (g.met.F.Form.laws c.args.form.now) (worth l) (worth_ranged l c.requires)) }

@@ -13,8 +13,8 @@ pub write-bits-requires : goal.write-bits-requires
 write-bits-requires g c =
     let l = c.args.load in
     let form = c.args.form.now in
-    let x = to_z-of_z w32 c.exponent-e.result (record { sfits = c.exponent-e.type-inv }) in
-    let y = to_z-of_z w32 c.grain.result (record { sfits = c.grain.type-inv }) in
+    let x = to_z-of_z w32 c.exponent-e.result (record { sfits = c.exponent-e.ok }) in
+    let y = to_z-of_z w32 c.grain.result (record { sfits = c.grain.type_inv }) in
     let e_is : to_z w32 (of_z w32 c.exponent-e.result) ≡ exponent (weight l) = cc in
     let g_is : to_z w32 (of_z w32 c.grain.result) ≡ (g.F.Form.writing form).grain (to_z w32 (of_z w32 c.exponent-e.result)) = cc in (
       weight l,
@@ -26,8 +26,8 @@ pub returns-then-over : goal.returns-then-over
 returns-then-over g c =
     let l = c.args.load in
     let form = c.args.form.now in
-    let x = to_z-of_z w32 c.exponent-e.result (record { sfits = c.exponent-e.type-inv }) in
-    let y = to_z-of_z w32 c.grain.result (record { sfits = c.grain.type-inv }) in
+    let x = to_z-of_z w32 c.exponent-e.result (record { sfits = c.exponent-e.ok }) in
+    let y = to_z-of_z w32 c.grain.result (record { sfits = c.grain.type_inv }) in
     let e_is : to_z w32 (of_z w32 c.exponent-e.result) ≡ exponent (weight l) = cc in
     let g_is : to_z w32 (of_z w32 c.grain.result) ≡ (g.F.Form.writing form).grain (to_z w32 (of_z w32 c.exponent-e.result)) = cc in
     let d : c.facing.result ≡ facing (g.F.Source.reads form c.write-bits.result.0) (turned l.negative c.rounded-grains.result.direction) = cc in
@@ -41,8 +41,8 @@ returns-else-over g c =
     let l = c.args.load in
     let form = c.args.form.now in
     let f = form_of (g.F.Source.reads form) (g.F.Form.writing form) in
-    let x = to_z-of_z w32 c.exponent-e.result (record { sfits = c.exponent-e.type-inv }) in
-    let y = to_z-of_z w32 c.grain.result (record { sfits = c.grain.type-inv }) in
+    let x = to_z-of_z w32 c.exponent-e.result (record { sfits = c.exponent-e.ok }) in
+    let y = to_z-of_z w32 c.grain.result (record { sfits = c.grain.type_inv }) in
     let e_is : to_z w32 (of_z w32 c.exponent-e.result) ≡ exponent (weight l) = cc in
     let g_is : to_z w32 (of_z w32 c.grain.result) ≡ (g.F.Form.writing form).grain (to_z w32 (of_z w32 c.exponent-e.result)) = cc in
     let h = handed f l.negative (weight l) _ _ _ e_is g_is c.rounded-grains.ensures

@@ -17,5 +17,5 @@ pub returns : goal.returns
 returns c =
     let place = c.args.place in
     c.nearest.ensures
-    ∙ ap₂ (λ x y. rounded_to (2 * x) (c.args.size / 2 ^ place / 2 * (2 * x) + y)) (one_shl place 64 c.requires) c.low-digits.ensures
+    ∙ ap₂ (λ x y. rounded_to (2 * x) (c.args.size / 2 ^ place / 2 * (2 * x) + y)) (one_shl place 64 c.requires) c.low_digits.ensures
     ∙ ap (rounded_to (2 * 2 ^ place)) (parted c.args.size place)
