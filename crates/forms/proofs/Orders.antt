@@ -1,5 +1,5 @@
 -- How the worths of two loads compare: by their signs, and by their sizes once both stand at the finer scale.
-use Rattle.std.proofs.Common.{◌≡◌, ℕ, zero, suc, ◌+◌, ◌-◌, ◌*◌, ◌^◌, ◌<◌, ◌≤◌, Bool, true, false, cond, not, eqb, ℤ, pos, negsuc, ◌-ℤ◌, neg_ℤ, nat_abs, ◌≤ℤ◌, ◌<ℤ◌, sym, refl, ap, ◌∙◌, ap₂, ⊎_elim, mul_assoc, mul-lt-mul_of_pos_right, mul-pos, arith, w32, to_z, of_z}
+use Rattle.std.proofs.Common.{◌≡◌, ℕ, zero, suc, ◌+◌, ◌-◌, ◌*◌, ◌^◌, ◌<◌, Bool, true, false, cond, not, eqb, ℤ, pos, negsuc, ◌-ℤ◌, neg_ℤ, nat_abs, ◌≤ℤ◌, ◌<ℤ◌, sym, refl, ap, ◌∙◌, ap₂, ⊎_elim, mul_assoc, mul-lt-mul_of_pos_right, mul-pos, arith, w32, to_z, of_z}
 use mathlib.Core.Bool.{beq}
 use borrow.Author.Differences.{up, down}
 use Rattle.std.proofs.lemmas.Nat.{pow_pos, pow-add}

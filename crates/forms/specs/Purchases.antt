@@ -1,5 +1,5 @@
 -- A purchase layer, as a function on what the source under it reads.
-use Rattle.std.specs.Prelude.{◌≡◌, ℕ, ◌^◌, cond, ℤ, pos, negsuc, ◌-ℤ◌, ◌*ℤ◌, Ok, Err, Result, ◌==◌, int_lt}
+use Rattle.std.specs.Prelude.{◌≡◌, ℕ, ◌^◌, cond, pos, negsuc, ◌-ℤ◌, ◌*ℤ◌, Ok, Err, Result, ◌==◌, int_lt}
 use Rattle.forms.specs.declared.load.Load.{Load}
 use Rattle.forms.specs.declared.load.Reading.{Reading}
 use Rattle.forms.specs.declared.load.Reading.TheVariants.{NoNumber, EndlessUp, EndlessDown, Finite}

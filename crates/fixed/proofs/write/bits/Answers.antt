@@ -6,4 +6,4 @@ use Rattle.fixed.proofs.write.bits.Goals as goal
 pub returns : goal.returns
 returns c =
     let w = c.args.width in
-    c.low-digits.ensures ∙ ap (λ x. x % 2 ^ w) c.word.ensures ∙ modulo_word (with_sign c.args.negative c.args.size) w c.requires
+    c.low_digits.ensures ∙ ap (λ x. x % 2 ^ w) c.word.ensures ∙ modulo_word (with_sign c.args.negative c.args.size) w c.requires

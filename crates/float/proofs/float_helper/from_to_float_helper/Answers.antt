@@ -9,8 +9,8 @@ use Rattle.float.specs.Writings.{infinity, packed}
 use Rattle.float.specs.Fields.{exponents, exp_max_some, infinity_below, packed_below, packed_beyond}
 use Rattle.float.proofs.float_helper.from_to_float_helper.Goals as goal
 
-pub returns-then-exp-exp-max : goal.returns-then-exp-exp-max
-returns-then-exp-exp-max c =
+pub returns-then-exp-exp_max : goal.returns-then-exp-exp_max
+returns-then-exp-exp_max c =
     let w = c.args.width in
     let p = c.args.prec in
     let above = nat_of (c.args.exp -ℤ exp_min w p) in
@@ -19,7 +19,7 @@ returns-then-exp-exp-max c =
     let l : 2 ^ (w - p) ≤ above + 2 = omega (arith, ints, nat_of_up) in
     let f : 2 ^ (p - 1) ≤ c.args.mant = c.requires.full (omega (arith, ints)) in
     let b = packed_beyond w p above c.args.mant l f in
-    cond_above (packed p above c.args.mant) (infinity w p) _ _ _ b (ap (λ i. (i, true)) c.signed-infinity.ensures)
+    cond_above (packed p above c.args.mant) (infinity w p) _ _ _ b (ap (λ i. (i, true)) c.signed_infinity.ensures)
 
 pub packed-bits-requires : goal.packed-bits-requires
 packed-bits-requires c =
@@ -27,16 +27,16 @@ packed-bits-requires c =
     let p = c.args.prec in
     let x = exponents w p c.requires.lawful in
     let y = exp_max_some w p c.requires.lawful in
-    let l : c.above-min.result + 2 ≤ 2 ^ (w - p) = omega (arith, ints, nat_of_up) in
+    let l : c.above_min.result + 2 ≤ 2 ^ (w - p) = omega (arith, ints, nat_of_up) in
     let t = twice_less p (omega arith) in
-    let b = packed_below w p c.above-min.result c.args.mant c.requires.lawful l (omega arith) in
+    let b = packed_below w p c.above_min.result c.args.mant c.requires.lawful l (omega arith) in
     let u = pow_up (w - 1) 63 (omega arith) in
     record { some = (omega arith, omega arith); room = omega arith }
 
-pub with-sign-requires : goal.with-sign-requires
-with-sign-requires c =
+pub with_sign-requires : goal.with_sign-requires
+with_sign-requires c =
     let w = c.args.width in
     let p = c.args.prec in
-    let l = ltb-true c.packed-bits.result (infinity w p) (sym c.is-finite.ensures ∙ c.if-is-finite.true) in
+    let l = ltb-true c.packed-bits.result (infinity w p) (sym c.is_finite.ensures ∙ c.if-is_finite.true) in
     let b = infinity_below w p c.requires.lawful in
     record { width = (omega arith, omega arith); room = omega arith }

@@ -10,5 +10,5 @@ packed-requires c =
     let p = c.args.prec in
     let b = infinity_below w p c.requires in
     let u = pow_up (w - 1) 63 (omega arith) in
-    let e : c.exp-top.result * 2 ^ (p - 1) ≡ infinity w p = ap (λ x. x * 2 ^ (p - 1)) c.exp-top.ensures in
+    let e : c.exp_top.result * 2 ^ (p - 1) ≡ infinity w p = ap (λ x. x * 2 ^ (p - 1)) c.exp_top.ensures in
     record { some = (omega arith, omega arith); room = omega arith }

@@ -13,7 +13,7 @@ pub write-bits-requires : goal.write-bits-requires
 write-bits-requires g c =
     let l = c.args.load in
     let form = c.args.form.now in
-    let x = to_z-of_z w32 c.exponent-e.result (record { sfits = c.exponent-e.ok }) in
+    let x = to_z-of_z w32 c.exponent-e.result (record { sfits = c.exponent-e.type_inv }) in
     let y = to_z-of_z w32 c.grain.result (record { sfits = c.grain.type_inv }) in
     let e_is : to_z w32 (of_z w32 c.exponent-e.result) ≡ exponent (weight l) = cc in
     let g_is : to_z w32 (of_z w32 c.grain.result) ≡ (g.F.Form.writing form).grain (to_z w32 (of_z w32 c.exponent-e.result)) = cc in (
@@ -26,7 +26,7 @@ pub returns-then-over : goal.returns-then-over
 returns-then-over g c =
     let l = c.args.load in
     let form = c.args.form.now in
-    let x = to_z-of_z w32 c.exponent-e.result (record { sfits = c.exponent-e.ok }) in
+    let x = to_z-of_z w32 c.exponent-e.result (record { sfits = c.exponent-e.type_inv }) in
     let y = to_z-of_z w32 c.grain.result (record { sfits = c.grain.type_inv }) in
     let e_is : to_z w32 (of_z w32 c.exponent-e.result) ≡ exponent (weight l) = cc in
     let g_is : to_z w32 (of_z w32 c.grain.result) ≡ (g.F.Form.writing form).grain (to_z w32 (of_z w32 c.exponent-e.result)) = cc in
@@ -41,7 +41,7 @@ returns-else-over g c =
     let l = c.args.load in
     let form = c.args.form.now in
     let f = form_of (g.F.Source.reads form) (g.F.Form.writing form) in
-    let x = to_z-of_z w32 c.exponent-e.result (record { sfits = c.exponent-e.ok }) in
+    let x = to_z-of_z w32 c.exponent-e.result (record { sfits = c.exponent-e.type_inv }) in
     let y = to_z-of_z w32 c.grain.result (record { sfits = c.grain.type_inv }) in
     let e_is : to_z w32 (of_z w32 c.exponent-e.result) ≡ exponent (weight l) = cc in
     let g_is : to_z w32 (of_z w32 c.grain.result) ≡ (g.F.Form.writing form).grain (to_z w32 (of_z w32 c.exponent-e.result)) = cc in

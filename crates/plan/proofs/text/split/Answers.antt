@@ -6,5 +6,5 @@ pub returns : goal.returns
 returns c =
     let m = mod_below c.args.size (2 ^ c.args.scale) (pow_pos c.args.scale) in
     let p : 2 ^ c.args.scale ≤ 2 ^ 60 = pow_mono c.requires in
-    let e = c.low-digits.ensures in
+    let e = c.low_digits.ensures in
     record { value = ap (λ x. (c.args.size / 2 ^ c.args.scale, x)) e; bound = omega arith }

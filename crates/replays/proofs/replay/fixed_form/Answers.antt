@@ -5,4 +5,4 @@ use Rattle.replays.proofs.replay.fixed_form.Goals as goal
 
 pub returns-in-Fixed : goal.returns-in-Fixed
 returns-in-Fixed c =
-    subst (λ (x : FormName). SaysForm x c.args.words.now.rest c.form.new.words.rest) c.in-Fixed.is c.in-ok-fixed.ensures
+    subst (λ (x : FormName). SaysForm x c.args.words.now.rest c.form.new.words.rest) c.in-Fixed.is c.in_ok-fixed.ensures

@@ -5,7 +5,7 @@ use Rattle.replays.proofs.replay.from_float_agrees.Goals as goal
 pub returns : goal.returns
 returns c =
     record {
-      claim = from_float c.in-ok-format.format c.in-ok-bits.bits c.in-ok-form.form c.in-ok-said.said;
+      claim = from_float c.in_ok-format.format c.in_ok-bits.bits c.in_ok-form.form c.in_ok-said.said;
       is_kind = refl;
       after = c.conversion.new.words.rest;
       says = search rules;

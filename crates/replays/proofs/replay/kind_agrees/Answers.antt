@@ -5,10 +5,10 @@ use Rattle.replays.proofs.replay.kind_agrees.Goals as goal
 pub returns : goal.returns
 returns c =
     record {
-      claim = kind c.in-ok-format.format c.in-ok-bits.bits c.in-ok-reading.reading;
+      claim = kind c.in_ok-format.format c.in_ok-bits.bits c.in_ok-reading.reading;
       is_kind = refl;
       after = c.reading.new.words.rest;
       says = search rules;
       whole = search rules;
-      decides = c.float-reads-as.ensures;
+      decides = c.float_reads_as.ensures;
     }

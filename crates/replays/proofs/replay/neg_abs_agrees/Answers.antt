@@ -13,7 +13,7 @@ whole_number b f signed width bits reading e h = rw (e.0, e.1, e.2) at h
 pub returns : goal.returns
 returns c =
     record {
-      claim = neg_abs c.in-ok-signed.signed c.in-ok-width.width c.in-ok-bits.bits c.in-ok-negative.negative c.in-ok-size.size;
+      claim = neg_abs c.in_ok-signed.signed c.in_ok-width.width c.in_ok-bits.bits c.in_ok-negative.negative c.in_ok-size.size;
       is_kind = refl;
       after = c.word-5.new.self.rest;
       says =
@@ -28,10 +28,10 @@ returns c =
                       record {
                         between = c.word-4.new.self.rest;
                         first = search rules;
-                        second = record { word = c.in-ok-word-5.field-0; taken = c.in-ok-word-5.ensures; says = c.in-ok-size.ensures };
+                        second = record { word = c.in_ok-word-5.field-0; taken = c.in_ok-word-5.ensures; says = c.in_ok-size.ensures };
                       };
                 };
           };
       whole = search rules;
-      decides = whole_number c.reads-as.result c.in-Ok.form c.in-ok-signed.signed c.in-ok-width.width c.in-ok-bits.bits (Finite (record { negative = c.in-ok-negative.negative; size = c.in-ok-size.size; scale = pos 0 })) c.in-Ok.ensures c.reads-as.ensures;
+      decides = whole_number c.reads_as.result c.in-Ok.form c.in_ok-signed.signed c.in_ok-width.width c.in_ok-bits.bits (Finite (record { negative = c.in_ok-negative.negative; size = c.in_ok-size.size; scale = pos 0 })) c.in-Ok.ensures c.reads_as.ensures;
     }

@@ -5,7 +5,7 @@ use Rattle.replays.proofs.replay.to_float_agrees.Goals as goal
 pub returns : goal.returns
 returns c =
     record {
-      claim = to_float c.in-ok-source.source c.in-ok-bits.bits c.in-ok-format.format c.in-ok-float-bits.float-bits;
+      claim = to_float c.in_ok-source.source c.in_ok-bits.bits c.in_ok-format.format c.in_ok-float_bits.float_bits;
       is_kind = refl;
       after = c.word-3.new.self.rest;
       says = search rules;

@@ -1,13 +1,13 @@
 use Rattle.vectors.proofs.answers.compares_to_float.Goals as goal
 
 pub returns-in-F16 : goal.returns-in-F16
-returns-in-F16 c = rw c.in-F16.is c.both-ways.ensures
+returns-in-F16 c = rw c.in-F16.is c.both_ways.ensures
 
 pub returns-in-Bf16 : goal.returns-in-Bf16
-returns-in-Bf16 c = rw c.in-Bf16.is c.both-ways-in-Bf16.ensures
+returns-in-Bf16 c = rw c.in-Bf16.is c.both_ways-in-Bf16.ensures
 
 pub returns-in-F32 : goal.returns-in-F32
-returns-in-F32 c = rw c.in-F32.is c.both-ways-in-F32.ensures
+returns-in-F32 c = rw c.in-F32.is c.both_ways-in-F32.ensures
 
 pub returns-in-F64 : goal.returns-in-F64
-returns-in-F64 c = rw c.in-F64.is c.both-ways-in-F64.ensures
+returns-in-F64 c = rw c.in-F64.is c.both_ways-in-F64.ensures

@@ -10,6 +10,6 @@ returns c =
     let b = c.args.negative in
     let h = bounds f.width f.fraction f.is_lawful in
     record {
-      value = c.edge-bits.ensures;
-      extreme = subst (Outermost f.signed f.width b) (sym c.edge-bits.ensures) (edge_outermost f.signed f.width b h.some);
+      value = c.edge_bits.ensures;
+      extreme = subst (Outermost f.signed f.width b) (sym c.edge_bits.ensures) (edge_outermost f.signed f.width b h.some);
     }

@@ -11,7 +11,7 @@ returns c =
     let f = c.args.self.now in
     let e = c.args.e in
     let v : to_z w32 (of_z w32 c.minus.result) ≡ neg_ℤ (pos f.fraction) =
-    to_z-of_z w32 c.minus.result (record { sfits = c.minus.type-inv }) ∙ c.minus.ensures in
+    to_z-of_z w32 c.minus.result (record { sfits = c.minus.type_inv }) ∙ c.minus.ensures in
     record {
       value = v;
       ranged = subst (λ x. InRange x) (sym v) ((laws_of f).ranged e c.requires);

@@ -8,5 +8,5 @@ pub returns : goal.returns
 returns g c =
     let w = g.F.Format.width in
     let p = g.F.Format.prec in
-    let v : c.signed-infinity.result ≡ (float_writing w p).edge c.args.negative = cc in
+    let v : c.signed_infinity.result ≡ (float_writing w p).edge c.args.negative = cc in
     record { value = v; infinite = ap (float_reads w p) v ∙ reads_infinity w p g.met.F.Format.lawful c.args.negative }

@@ -14,7 +14,7 @@ returns g c =
     let e = c.args.e in
     let k = float_laws w p g.met.F.Format.lawful in
     let a = to_z-of_z w32 e c.ranges.e in
-    let b = to_z-of_z w32 c.grain.result (record { sfits = c.grain.type-inv }) in
+    let b = to_z-of_z w32 c.grain.result (record { sfits = c.grain.type_inv }) in
     let v : to_z w32 (of_z w32 c.grain.result) ≡ float_grain w p e = cc in
     record {
       value = v;

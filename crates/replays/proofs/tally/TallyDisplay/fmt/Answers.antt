@@ -8,6 +8,6 @@ returns-clause-writes g c =
     writes_on_IsOk-append g.W.Write.write_str_gives c.args.f.now c.write.new.self c.write-2.new.self c.write.result c.write-2.result
     (readings_text c.args.self.now)
     (conversions_text c.args.self.now)
-    (λ _. rw c.in-ok-write.was refl)
+    (λ _. rw c.in_ok-write.was refl)
     c.write.ensures.writes
     c.write-2.ensures.writes
