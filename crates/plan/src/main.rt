@@ -6,7 +6,7 @@ mod text;
 use fixed::Fixed;
 use float::{F16, F32, Float};
 use forms::{Reading, Refusal, Source, convert};
-use std::io;
+use std::{fmt, io};
 use text::{Amount, Told, apart, direction_word, flag_word};
 
 // Why the story breaks off: it could not be printed, or something was refused that should not have been.
@@ -14,6 +14,20 @@ use text::{Amount, Told, apart, direction_word, flag_word};
 enum Stop {
     Print(io::Error),
     Refused(Refusal),
+}
+
+// What is printed where the story breaks off.
+impl fmt::Debug for Stop {
+    fn fmt<W: fmt::Write>(&self, f: &mut fmt::Formatter<W>) -> fmt::Result {
+        match self {
+            Stop::Print(_) => write!(f, "the story could not be printed"),
+            Stop::Refused(refusal) => {
+                let number = refusal.cause.number();
+                let depth = refusal.depth;
+                write!(f, "refused {number} at depth {depth}")
+            }
+        }
+    }
 }
 
 impl From<io::Error> for Stop {

@@ -7,7 +7,7 @@ use fixed::Fixed;
 use float::{F16, F32, F64, Float};
 use forms::cmp::{compare, equal};
 use forms::{Purchase, Refusal, Source};
-use std::io;
+use std::{fmt, io};
 use text::{Reason, Told, advice, word};
 
 // Why the story breaks off: it could not be printed, or something was refused that should not have been.
@@ -15,6 +15,19 @@ use text::{Reason, Told, advice, word};
 enum Stop {
     Print(io::Error),
     Refused(Refusal),
+}
+
+// What is printed where the story breaks off.
+impl fmt::Debug for Stop {
+    fn fmt<W: fmt::Write>(&self, f: &mut fmt::Formatter<W>) -> fmt::Result {
+        match self {
+            Stop::Print(_) => write!(f, "the story could not be printed"),
+            Stop::Refused(refusal) => {
+                let reason = Reason(*refusal);
+                write!(f, "{reason}")
+            }
+        }
+    }
 }
 
 impl From<io::Error> for Stop {
