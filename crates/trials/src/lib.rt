@@ -2,7 +2,6 @@
 // kinds compare, and what they become in other forms.
 #![tactic(auto)]
 
-
 #[cfg(test)]
 mod building;
 #[cfg(test)]

@@ -10,7 +10,7 @@ endless_said : (negative : Bool) (before after : Left) → Then (Spelt (codes "i
 endless_said true before after said = said
 endless_said false before after said = said
 
-pub returns-in_ok-negative : goal.returns-in_ok-negative
-returns-in_ok-negative c =
+pub returns-in_ok-negative-in-infinite : goal.returns-in_ok-negative-in-infinite
+returns-in_ok-negative-in-infinite c =
     subst (λ (x : Reading). SaysReading x c.args.words.now.rest c.word-in-infinite.new.self.rest) (sym c.endless.ensures)
-    (endless_said c.in_ok-negative.negative c.args.words.now.rest c.word-in-infinite.new.self.rest (search rules))
+    (endless_said c.in_ok-negative-in-infinite.negative c.args.words.now.rest c.word-in-infinite.new.self.rest (search rules))
