@@ -101,8 +101,8 @@ pub data Claim : Type 0 where
 abbrev pub kind_of : Claim → LineKind
 kind_of (kind name bits reading) = Kind
 kind_of (neg_abs signed width bits negative size) = NegAbs
-kind_of (compare fixed fixed-bits name bits answers) = Compare
-kind_of (to_float fixed bits name float-bits) = ToFloat
+kind_of (compare fixed fixed_bits name bits answers) = Compare
+kind_of (to_float fixed bits name float_bits) = ToFloat
 kind_of (from_float name bits fixed said) = FromFloat
 kind_of (convert source bits form said) = Convert
 
@@ -110,10 +110,10 @@ kind_of (convert source bits form said) = Convert
 abbrev pub Says : Claim → Left → Left → Type 0
 Says (kind name bits reading) = Then (Spelt (format_word name)) (Then (Hex bits) (SaysReading reading))
 Says (neg_abs signed width bits negative size) = Then (SaysWidth signed width) (Then (Hex bits) (Then (Spelt (sign_word negative)) (Hex size)))
-Says (compare fixed fixed-bits name bits answers) =
-    Then (SaysForm (fixed_form fixed)) (Then (Hex fixed-bits) (Then (Spelt (format_word name)) (Then (Hex bits) (SaysAnswers answers))))
-Says (to_float fixed bits name float-bits) =
-    Then (SaysForm (fixed_form fixed)) (Then (Hex bits) (Then (Spelt (format_word name)) (Hex float-bits)))
+Says (compare fixed fixed_bits name bits answers) =
+    Then (SaysForm (fixed_form fixed)) (Then (Hex fixed_bits) (Then (Spelt (format_word name)) (Then (Hex bits) (SaysAnswers answers))))
+Says (to_float fixed bits name float_bits) =
+    Then (SaysForm (fixed_form fixed)) (Then (Hex bits) (Then (Spelt (format_word name)) (Hex float_bits)))
 Says (from_float name bits fixed said) =
     Then (Spelt (format_word name)) (Then (Hex bits) (Then (SaysForm (fixed_form fixed)) (SaysConversion said)))
 Says (convert source bits form said) = Then (SaysForm source) (Then (Hex bits) (Then (SaysForm form) (SaysConversion said)))
@@ -123,9 +123,9 @@ abbrev pub Holds : Claim → Type 0
 Holds (kind name bits reading) = float_reads (width_of name) (prec_of name) bits ≡ Ok reading
 Holds (neg_abs signed width bits negative size) =
     fixed_reads signed width 0 bits ≡ Ok (Finite (record { negative = negative; size = size; scale = pos 0 }))
-Holds (compare fixed fixed-bits name bits answers) =
-    BothAnswered (fixed_reads fixed.signed fixed.width fixed.fraction fixed-bits) (float_reads (width_of name) (prec_of name) bits) answers
-Holds (to_float fixed bits name float-bits) = Converts (meaning_of (float_form name)) ((meaning_of (fixed_form fixed)).reads bits) (Bits float-bits)
+Holds (compare fixed fixed_bits name bits answers) =
+    BothAnswered (fixed_reads fixed.signed fixed.width fixed.fraction fixed_bits) (float_reads (width_of name) (prec_of name) bits) answers
+Holds (to_float fixed bits name float_bits) = Converts (meaning_of (float_form name)) ((meaning_of (fixed_form fixed)).reads bits) (Bits float_bits)
 Holds (from_float name bits fixed said) = Converts (meaning_of (fixed_form fixed)) ((meaning_of (float_form name)).reads bits) said
 Holds (convert source bits form said) = Converts (meaning_of form) ((meaning_of source).reads bits) said
 
