@@ -1,5 +1,5 @@
 ghost use Rattle.fixed.specs.Fixeds.{Built, fixed_reads};
-ghost use Rattle.std.proofs.Common.{rules, arith};
+ghost use Rattle.std.proofs.Common.{rules};
 
 use crate::form::Fixed;
 use crate::int_helper::neg_abs;
@@ -29,7 +29,7 @@ impl Fixed {
 impl Source for Fixed {
     ghost reads = { λ f bits. fixed_reads f.signed f.width f.fraction bits };
 
-    ghost sound = { first_of (Prim.search rules, Prim.grind (arith, Self.row.coded.inj)) };
+    ghost sound = { Prim.search rules };
 
     fn read(&self, bits: u64) -> Result<Reading, Refusal> {
         if words::fits(bits, self.width) {

@@ -1,6 +1,6 @@
 // How a fixed form writes whole numbers: modulo 2^width, flagged where they lie outside what its bits stand for.
 ghost use Rattle.std.specs.Prelude.{◌≡◌, ℕ, ◌-◌, ◌^◌, ◌<◌, ◌≤◌, pos, neg_ℤ};
-ghost use Rattle.forms.specs.Loads.{signed as «with_sign»};
+ghost use Rattle.forms.specs.Loads.{signed as with_sign};
 ghost use Rattle.forms.specs.Forms.{rounded, grains, Faithful, Rounds};
 ghost use Rattle.fixed.specs.Writings.{modulo, extreme, outside, fixed_writes, fixed_edge, fixed_writing, meaning, Wraps, Outermost};
 ghost use Rattle.fixed.specs.Shapes.{laws_of};
@@ -20,7 +20,7 @@ fn ones(count: u32) -> u64
 fn limit(signed: bool, width: u32, negative: bool) -> u64
     requires some { 0 < width }
     requires word { width ≤ 64 }
-    ensures { «with_sign» negative result ≡ extreme signed width negative }
+    ensures { with_sign negative result ≡ extreme signed width negative }
 {
     if signed {
         let most = ones(width - 1);
@@ -36,14 +36,14 @@ fn limit(signed: bool, width: u32, negative: bool) -> u64
 fn is_outside(signed: bool, width: u32, negative: bool, size: u64) -> bool
     requires some { 0 < width }
     requires word { width ≤ 64 }
-    ensures { result ≡ outside signed width («with_sign» negative size) }
+    ensures { result ≡ outside signed width (with_sign negative size) }
 {
     size > limit(signed, width, negative)
 }
 
 // A size with a sign, modulo 2^64.
 fn word(negative: bool, size: u64) -> u64
-    ensures { result ≡ modulo («with_sign» negative size) (2 ^ 64) }
+    ensures { result ≡ modulo (with_sign negative size) (2 ^ 64) }
 {
     if negative { size.wrapping_neg() } else { size }
 }
@@ -51,7 +51,7 @@ fn word(negative: bool, size: u64) -> u64
 // A size with a sign, modulo 2^width.
 fn bits(width: u32, negative: bool, size: u64) -> u64
     requires { width ≤ 64 }
-    ensures { result ≡ modulo («with_sign» negative size) (2 ^ width) }
+    ensures { result ≡ modulo (with_sign negative size) (2 ^ width) }
 {
     words::low_digits(word(negative, size), width)
 }
@@ -106,7 +106,7 @@ impl Form for Fixed {
     fn write(&self, negative: bool, e: i32, low: u64, more: bool) -> (u64, bool)
         ensures value { result ≡ (meaning self.now).writing.write negative e low more }
         ensures faithful { (n : ℕ) → Rounds (meaning self.now).writing e low more n → Faithful (meaning self.now).reads (rounded (meaning self.now).writing negative n) result }
-        ensures modulo { (n : ℕ) → Rounds (meaning self.now).writing e low more n → Wraps self.now.signed self.now.width («with_sign» negative (grains (meaning self.now).writing n)) result }
+        ensures modulo { (n : ℕ) → Rounds (meaning self.now).writing e low more n → Wraps self.now.signed self.now.width (with_sign negative (grains (meaning self.now).writing n)) result }
     {
         written(self.signed, self.width, negative, low, more)
     }

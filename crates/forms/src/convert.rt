@@ -3,7 +3,7 @@ ghost use Rattle.std.specs.Prelude.{◌≡◌, ◌<◌, Ok};
 ghost use Rattle.forms.specs.Refusals.{told};
 ghost use Rattle.forms.specs.Loads.{weight, worth, SoundLoad, SoundReading};
 ghost use Rattle.forms.specs.Forms.{form_of};
-ghost use Rattle.forms.specs.Conversions.{facing, answered, plain as «plain_of_lem», clamped as «clamped-of», converted, converted_clamped, NearestAnswer, NearestConversion};
+ghost use Rattle.forms.specs.Conversions.{facing, answered, plain as plain_of, clamped as clamped_of, converted, converted_clamped, NearestAnswer, NearestConversion};
 ghost use Rattle.forms.specs.Roundings.{turned};
 
 use crate::direction::Direction;
@@ -55,7 +55,7 @@ fn write_into<F: Form>(load: Load, form: &F) -> (u64, Direction, bool)
 // A load in a form.
 fn load_into<F: Form>(load: Load, form: &F) -> (u64, Direction, bool)
     requires { SoundLoad load }
-    ensures value { result ≡ «plain_of_lem» (form_of (F.Source.reads form.now) (F.Form.writing form.now)) (worth load) }
+    ensures value { result ≡ plain_of (form_of (F.Source.reads form.now) (F.Form.writing form.now)) (worth load) }
     ensures nearest { NearestAnswer (form_of (F.Source.reads form.now) (F.Form.writing form.now)) (worth load) result }
 {
     if load.size == 0 {
@@ -68,7 +68,7 @@ fn load_into<F: Form>(load: Load, form: &F) -> (u64, Direction, bool)
 // The same, clamped.
 fn clamped_into<F: Form>(load: Load, form: &F) -> u64
     requires { SoundLoad load }
-    ensures { result ≡ «clamped-of» (form_of (F.Source.reads form.now) (F.Form.writing form.now)) (worth load) }
+    ensures { result ≡ clamped_of (form_of (F.Source.reads form.now) (F.Form.writing form.now)) (worth load) }
 {
     let (bits, _, over) = load_into(load, form);
     if over { form.edge(load.negative) } else { bits }

@@ -4,7 +4,7 @@ ghost use Rattle.std.specs.Int.{w32};
 ghost use Rattle.std.specs.Option.{option_map};
 ghost use Rattle.std.specs.Str.Parse.{ParsesUnsigned, ParsesSigned};
 ghost use Rattle.replays.specs.Cuts.{Takes};
-ghost use Rattle.replays.specs.Spellings.{Spells, «sign_word», «signedness_word», «format_word», «comparison_word», «equality_word», «direction_word», «flag_word»};
+ghost use Rattle.replays.specs.Spellings.{Spells, sign_word, signedness_word, format_word, comparison_word, equality_word, direction_word, flag_word};
 
 use forms::{Comparison, Direction};
 
@@ -88,7 +88,7 @@ pub fn integer(word: &str) -> Result<i32, Malformed>
 
 // `-` where a number is below 0, else `+`.
 pub fn sign(word: &str) -> Result<bool, Malformed>
-    ensures { Spells «sign_word» word.now result }
+    ensures { Spells sign_word word.now result }
 {
     match word {
         "+" => Ok(false),
@@ -99,7 +99,7 @@ pub fn sign(word: &str) -> Result<bool, Malformed>
 
 // `i` for a form in two's complement, `u` for an unsigned one.
 pub fn signedness(word: &str) -> Result<bool, Malformed>
-    ensures { Spells «signedness_word» word.now result }
+    ensures { Spells signedness_word word.now result }
 {
     match word {
         "i" => Ok(true),
@@ -119,7 +119,7 @@ pub enum FormatName {
 
 // The name of a float's format.
 pub fn format_name(word: &str) -> Result<FormatName, Malformed>
-    ensures { Spells «format_word» word.now result }
+    ensures { Spells format_word word.now result }
 {
     match word {
         "f16" => Ok(FormatName::F16),
@@ -132,7 +132,7 @@ pub fn format_name(word: &str) -> Result<FormatName, Malformed>
 
 // How the left side stands to the right one.
 pub fn comparison(word: &str) -> Result<Comparison, Malformed>
-    ensures { Spells «comparison_word» word.now result }
+    ensures { Spells comparison_word word.now result }
 {
     match word {
         "less" => Ok(Comparison::Less),
@@ -145,7 +145,7 @@ pub fn comparison(word: &str) -> Result<Comparison, Malformed>
 
 // Whether both sides are equal.
 pub fn equality(word: &str) -> Result<bool, Malformed>
-    ensures { Spells «equality_word» word.now result }
+    ensures { Spells equality_word word.now result }
 {
     match word {
         "eq" => Ok(true),
@@ -156,7 +156,7 @@ pub fn equality(word: &str) -> Result<bool, Malformed>
 
 // How an answer stands to the exact load.
 pub fn direction(word: &str) -> Result<Direction, Malformed>
-    ensures { Spells «direction_word» word.now result }
+    ensures { Spells direction_word word.now result }
 {
     match word {
         "below" => Ok(Direction::Below),
@@ -168,7 +168,7 @@ pub fn direction(word: &str) -> Result<Direction, Malformed>
 
 // Whether an answer is flagged.
 pub fn flag(word: &str) -> Result<bool, Malformed>
-    ensures { Spells «flag_word» word.now result }
+    ensures { Spells flag_word word.now result }
 {
     match word {
         "over" => Ok(true),

@@ -1,7 +1,7 @@
 // What became of the lines, counted.
 ghost use Rattle.std.specs.Prelude.{◌≡◌, Some};
 ghost use Rattle.std.specs.Option.{option_map};
-ghost use Rattle.replays.specs.Tallies.{judged, «fault_of», counted, nothing, «with_line», «with_altered», tallied, count_text, tally_text};
+ghost use Rattle.replays.specs.Tallies.{judged, fault_of, counted, nothing, with_line, with_altered, tallied, count_text, tally_text};
 
 use std::fmt;
 
@@ -43,7 +43,7 @@ impl Verdict {
 
     // What is wrong with a line that is not as it should be.
     pub fn fault(self) -> Option<&'static str>
-        ensures { option_map (λ x. x.now) result ≡ «fault_of» self }
+        ensures { option_map (λ x. x.now) result ≡ fault_of self }
     {
         match self {
             Verdict::Agrees(_) | Verdict::Refused => None,
@@ -119,7 +119,7 @@ impl Tally {
 
     // With one line more of a kind.
     fn with_line(self, kind: LineKind, agrees: bool) -> Tally
-        ensures { result ≡ «with_line» kind agrees self }
+        ensures { result ≡ with_line kind agrees self }
     {
         match kind {
             LineKind::Kind => Tally {
@@ -151,7 +151,7 @@ impl Tally {
 
     // With one altered line more.
     fn with_altered(self, refused: bool) -> Tally
-        ensures { result ≡ «with_altered» refused self }
+        ensures { result ≡ with_altered refused self }
     {
         Tally {
             altered: self.altered.counted(refused),

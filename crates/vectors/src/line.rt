@@ -4,7 +4,7 @@ ghost use Rattle.std.specs.Int.{w32};
 ghost use Rattle.std.specs.Option.{option_map};
 ghost use Rattle.std.specs.Str.Parse.{ParsesUnsigned, ParsesSigned};
 ghost use Rattle.vectors.specs.Cuts.{Takes};
-ghost use Rattle.vectors.specs.Spellings.{Spells, «sign_word», «signedness_word», «format_word», «comparison_word», «equality_word»};
+ghost use Rattle.vectors.specs.Spellings.{Spells, sign_word, signedness_word, format_word, comparison_word, equality_word};
 
 use forms::Comparison;
 
@@ -88,7 +88,7 @@ pub fn integer(word: &str) -> Result<i32, Malformed>
 
 // `-` where a number is below 0, else `+`.
 pub fn sign(word: &str) -> Result<bool, Malformed>
-    ensures { Spells «sign_word» word.now result }
+    ensures { Spells sign_word word.now result }
 {
     match word {
         "+" => Ok(false),
@@ -99,7 +99,7 @@ pub fn sign(word: &str) -> Result<bool, Malformed>
 
 // `i` for a form in two's complement, `u` for plain bits.
 pub fn signedness(word: &str) -> Result<bool, Malformed>
-    ensures { Spells «signedness_word» word.now result }
+    ensures { Spells signedness_word word.now result }
 {
     match word {
         "i" => Ok(true),
@@ -119,7 +119,7 @@ pub enum FormatName {
 
 // The name of a float's format.
 pub fn format_name(word: &str) -> Result<FormatName, Malformed>
-    ensures { Spells «format_word» word.now result }
+    ensures { Spells format_word word.now result }
 {
     match word {
         "f16" => Ok(FormatName::F16),
@@ -132,7 +132,7 @@ pub fn format_name(word: &str) -> Result<FormatName, Malformed>
 
 // How the left side stands to the right one.
 pub fn comparison(word: &str) -> Result<Comparison, Malformed>
-    ensures { Spells «comparison_word» word.now result }
+    ensures { Spells comparison_word word.now result }
 {
     match word {
         "less" => Ok(Comparison::Less),
@@ -145,7 +145,7 @@ pub fn comparison(word: &str) -> Result<Comparison, Malformed>
 
 // Whether both sides are equal.
 pub fn equality(word: &str) -> Result<bool, Malformed>
-    ensures { Spells «equality_word» word.now result }
+    ensures { Spells equality_word word.now result }
 {
     match word {
         "eq" => Ok(true),

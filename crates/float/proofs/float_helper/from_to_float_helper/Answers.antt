@@ -2,11 +2,11 @@ use Rattle.std.proofs.Common.{◌+◌, ◌-◌, ◌^◌, ◌≤◌, true, ◌-�
 use Rattle.std.proofs.lemmas.Int.{ints}
 use Rattle.std.proofs.lemmas.Bool.{ltb-true, cond_above}
 use Rattle.forms.specs.Loads.{nat_of}
-use Rattle.forms.proofs.Exponents.{twice_less, pow_up}
+use Rattle.forms.proofs.Exponents.{pow_up}
 use Rattle.forms.proofs.Orders.{nat_of_up}
 use Rattle.float.specs.Formats.{exp_min}
 use Rattle.float.specs.Writings.{infinity, packed}
-use Rattle.float.specs.Fields.{exponents, exp_max_some, infinity_below, packed_below, packed_beyond}
+use Rattle.float.specs.Fields.{twice_less, exponents, exp_max_some, infinity_below, packed_below, packed_beyond}
 use Rattle.float.proofs.float_helper.from_to_float_helper.Goals as goal
 
 pub returns-then-exp-exp_max : goal.returns-then-exp-exp_max
