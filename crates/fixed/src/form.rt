@@ -4,7 +4,7 @@ ghost use Rattle.fixed.specs.Widths.{lawful};
 // A fixed form: bits of this width stand for a whole number, unsigned or in two's complement, over 2^fraction.
 // It stands in a file of its own, since the definitions that name it cannot be imported where it is declared; it reads in source.rt and writes in
 // write.rt.
-#[derive(Clone, Copy)]
+#[derive(Clone, Copy, PartialEq, Eq, Hash, Debug)]
 pub struct Fixed {
     // two's complement, or else unsigned
     pub(crate) signed: bool,

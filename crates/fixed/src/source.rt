@@ -2,7 +2,6 @@ ghost use Rattle.fixed.specs.Fixeds.{Built, fixed_reads};
 ghost use Rattle.std.proofs.Common.{rules};
 
 use crate::form::Fixed;
-use crate::int_helper::neg_abs;
 use forms::{Cause, Load, Reading, Refusal, Source, words};
 
 impl Fixed {
@@ -10,11 +9,7 @@ impl Fixed {
     pub fn new(signed: bool, width: u32, fraction: u32) -> Result<Fixed, Refusal>
         ensures { Built signed width fraction result }
     {
-        let lawful = match width {
-            8 | 16 | 32 | 64 => fraction <= width,
-            _ => false,
-        };
-        if lawful {
+        if matches!(width, 8 | 16 | 32 | 64) && fraction <= width {
             Ok(Fixed {
                 signed,
                 width,
@@ -33,8 +28,9 @@ impl Source for Fixed {
 
     fn read(&self, bits: u64) -> Result<Reading, Refusal> {
         if words::fits(bits, self.width) {
-            let (negative, size) = neg_abs(self.signed, self.width, bits);
-            Ok(Reading::Finite(Load::new(negative, size, self.fraction as i32)))
+            let number = self.neg_abs(bits);
+            let load = Load::new(number.negative, number.size, self.fraction as i32);
+            Ok(Reading::Finite(load))
         } else {
             Err(Refusal::new(Cause::BitsTooWide))
         }

@@ -1,96 +1,53 @@
 // How a fixed form writes whole numbers: modulo 2^width, flagged where they lie outside what its bits stand for.
-ghost use Rattle.std.specs.Prelude.{◌≡◌, ℕ, ◌-◌, ◌^◌, ◌<◌, ◌≤◌, pos, neg_ℤ};
+ghost use Rattle.std.specs.Prelude.{◌≡◌, ℕ, pos, neg_ℤ};
 ghost use Rattle.forms.specs.Loads.{signed as with_sign};
 ghost use Rattle.forms.specs.Forms.{rounded, grains, Faithful, Rounds};
-ghost use Rattle.fixed.specs.Writings.{modulo, extreme, outside, fixed_writes, fixed_edge, fixed_writing, meaning, Wraps, Outermost};
+ghost use Rattle.fixed.specs.Wholes.{number};
+ghost use Rattle.fixed.specs.Writings.{extreme, fixed_writes, fixed_writing, meaning, Wraps, Outermost};
 ghost use Rattle.fixed.specs.Shapes.{laws_of};
 
 use crate::form::Fixed;
+use crate::int_helper::Whole;
 use forms::{Form, words};
 
-// The greatest number of so many digits.
-fn ones(count: u32) -> u64
-    requires { count ≤ 64 }
-    ensures { result ≡ 2 ^ count - 1 }
-{
-    words::low_digits(u64::MAX, count)
-}
-
-// The size of the least whole number, or of the greatest.
-fn limit(signed: bool, width: u32, negative: bool) -> u64
-    requires some { 0 < width }
-    requires word { width ≤ 64 }
-    ensures { with_sign negative result ≡ extreme signed width negative }
-{
-    if signed {
-        let most = ones(width - 1);
-        if negative { most + 1 } else { most }
-    } else if negative {
-        0
-    } else {
-        ones(width)
+impl Fixed {
+    // The least whole number that the bits stand for, or the greatest.
+    fn limit(self, negative: bool) -> Whole
+        ensures value { number result ≡ extreme self.signed self.width negative }
+        ensures sign { result.negative ≡ negative }
+    {
+        let size = if self.signed {
+            let most = words::ones(self.width - 1);
+            if negative { most + 1 } else { most }
+        } else if negative {
+            0
+        } else {
+            words::ones(self.width)
+        };
+        Whole::new(negative, size)
     }
-}
 
-// Whether a size with a sign lies outside what the bits stand for.
-fn is_outside(signed: bool, width: u32, negative: bool, size: u64) -> bool
-    requires some { 0 < width }
-    requires word { width ≤ 64 }
-    ensures { result ≡ outside signed width (with_sign negative size) }
-{
-    size > limit(signed, width, negative)
-}
+    // The grain: one unit of the last digit after the point, as a power of two.
+    fn last_digit(self) -> i32
+        ensures { result ≡ neg_ℤ (pos self.fraction) }
+    {
+        -(self.fraction as i32)
+    }
 
-// A size with a sign, modulo 2^64.
-fn word(negative: bool, size: u64) -> u64
-    ensures { result ≡ modulo (with_sign negative size) (2 ^ 64) }
-{
-    if negative { size.wrapping_neg() } else { size }
-}
+    // The bits of 0, which is written as any whole number is.
+    fn zero_bits(self) -> u64
+        ensures { result ≡ 0 }
+    {
+        Whole::new(false, 0).low_digits(self.width)
+    }
 
-// A size with a sign, modulo 2^width.
-fn bits(width: u32, negative: bool, size: u64) -> u64
-    requires { width ≤ 64 }
-    ensures { result ≡ modulo (with_sign negative size) (2 ^ width) }
-{
-    words::low_digits(word(negative, size), width)
-}
-
-// The bits and the flag.
-fn written(signed: bool, width: u32, negative: bool, low: u64, more: bool) -> (u64, bool)
-    requires some { 0 < width }
-    requires word { width ≤ 64 }
-    ensures { result ≡ fixed_writes signed width negative low more }
-{
-    (
-        bits(width, negative, low),
-        more || is_outside(signed, width, negative, low),
-    )
-}
-
-// The bits of the least whole number, or of the greatest.
-fn edge_bits(signed: bool, width: u32, negative: bool) -> u64
-    requires some { 0 < width }
-    requires word { width ≤ 64 }
-    ensures { result ≡ fixed_edge signed width negative }
-{
-    bits(width, negative, limit(signed, width, negative))
-}
-
-// The bits of 0, which is written as any whole number is.
-fn zero_bits(width: u32) -> u64
-    requires { width ≤ 64 }
-    ensures { result ≡ 0 }
-{
-    bits(width, false, 0)
-}
-
-// Minus a number of digits.
-fn minus(fraction: u32) -> i32
-    requires { fraction ≤ 64 }
-    ensures { result ≡ neg_ℤ (pos fraction) }
-{
-    -(fraction as i32)
+    // The bits for a whole number of which these are the lowest digits, and whether they do not stand for it.
+    fn written(self, low: Whole, more: bool) -> (u64, bool)
+        ensures { result ≡ fixed_writes self.signed self.width low.negative low.size more }
+    {
+        let outside = low.size > self.limit(low.negative).size;
+        (low.low_digits(self.width), more || outside)
+    }
 }
 
 impl Form for Fixed {
@@ -99,7 +56,7 @@ impl Form for Fixed {
     ghost laws = { λ f. laws_of f };
 
     fn grain(&self, e: i32) -> i32 {
-        minus(self.fraction)
+        self.last_digit()
     }
 
     // Only the lowest 64 digits of M are handed over; the bits are all of M modulo 2^width, flagged exactly if M lies outside.
@@ -108,11 +65,11 @@ impl Form for Fixed {
         ensures faithful { (n : ℕ) → Rounds (meaning self.now).writing e low more n → Faithful (meaning self.now).reads (rounded (meaning self.now).writing negative n) result }
         ensures modulo { (n : ℕ) → Rounds (meaning self.now).writing e low more n → Wraps self.now.signed self.now.width (with_sign negative (grains (meaning self.now).writing n)) result }
     {
-        written(self.signed, self.width, negative, low, more)
+        self.written(Whole::new(negative, low), more)
     }
 
     fn zero(&self) -> u64 {
-        zero_bits(self.width)
+        self.zero_bits()
     }
 
     // No bits of the width stand for a lesser number, or for a greater one.
@@ -120,6 +77,6 @@ impl Form for Fixed {
         ensures value { result ≡ (meaning self.now).writing.edge negative }
         ensures extreme { Outermost self.now.signed self.now.width negative result }
     {
-        edge_bits(self.signed, self.width, negative)
+        self.limit(negative).low_digits(self.width)
     }
 }

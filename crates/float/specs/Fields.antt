@@ -3,13 +3,9 @@ use Rattle.std.specs.Prelude.{◌≡◌, ℕ, ◌+◌, ◌-◌, ◌*◌, ◌%◌
 use Rattle.std.proofs.Common.{sym, ap, ◌∙◌, one-mul, add-mul, mul-le-mul_right, mul-lt-mul_of_pos_right, arith}
 use Rattle.std.proofs.Math.Pow.{ones_lt}
 use Rattle.std.proofs.lemmas.Nat.{pow_pos, pow-add, or_comm, or_shifted, one_shl}
-use Rattle.forms.proofs.Exponents.{twice_less as half_of_power}
+use Rattle.forms.proofs.Exponents.{twice_less}
 use Rattle.float.specs.Formats.{Lawful, exp_max}
 use Rattle.float.specs.Writings.{infinity, packed}
-
--- 2^k is twice 2^(k - 1)
-pub twice_less : (k : ℕ) → 0 < k → 2 ^ k ≡ 2 * 2 ^ (k - 1)
-twice_less = half_of_power
 
 -- the patterns of the exponent field
 pub exponents : (width prec : ℕ) → Lawful width prec → 2 ^ (width - prec) ≡ 2 * exp_max width prec + 2

@@ -7,13 +7,13 @@ use Rattle.std.proofs.lemmas.Bool.{true≢false, false≢true, ltb-true, ltb-fal
 use Rattle.forms.specs.Loads.{nat_of, signed, endless}
 use Rattle.forms.specs.Amounts.{exponent, unit, InRange, nearest}
 use Rattle.forms.specs.Forms.{form_of, grains, rounded, ReadsAs, Coarse, Faithful, Laws, Asked}
-use Rattle.forms.proofs.Exponents.{pow_up, places_ordered, within}
+use Rattle.forms.proofs.Exponents.{twice_less, pow_up, places_ordered, within}
 use Rattle.forms.proofs.Nearests.{near}
 use Rattle.forms.proofs.Orders.{nat_of_up}
 use Rattle.float.specs.Formats.{Lawful, exp_min}
 use Rattle.float.specs.Floats.{sign_of, float_reads}
 use Rattle.float.specs.Writings.{float_grain, sign_bit, infinity, packed, float_writes, float_writing}
-use Rattle.float.specs.Fields.{twice_less, exp_max_some, infinity_below}
+use Rattle.float.specs.Fields.{exp_max_some, infinity_below}
 use Rattle.forms.proofs.Soundness.{signed_size}
 use Rattle.float.specs.Significands.{whole_at, none_below, not_longer, not_shorter, not_shown}
 use Rattle.float.specs.Readings.{finest, shown, sign_kept, reads_infinity, reads_least, reads_packed}

@@ -1,5 +1,6 @@
 -- The numbers of a binary floating-point format, by its width and precision.
 use Rattle.std.specs.Prelude.{ℕ, ◌+◌, ◌-◌, ◌^◌, ◌≤◌, ℤ, pos, ◌-ℤ◌}
+use Rattle.std.proofs.Common.{rules}
 
 -- EXP_MAX, the greatest exponent of a number; it is the bias of the exponent field too
 abbrev pub exp_max : ℕ → ℕ → ℕ
@@ -16,3 +17,16 @@ pub record Lawful (width prec : ℕ) : Type 0 where
   pub one_word : width ≤ 64
   pub finest : exp_max width prec + prec ≤ 1076
   pub coarsest : exp_max width prec ≤ 999 + prec
+
+-- the formats of this crate
+pub binary16 : Lawful 16 11
+binary16 = search rules
+
+pub bfloat16 : Lawful 16 8
+bfloat16 = search rules
+
+pub binary32 : Lawful 32 24
+binary32 = search rules
+
+pub binary64 : Lawful 64 53
+binary64 = search rules

@@ -1,5 +1,5 @@
 -- Every number of a lawful format is in range.
-use Rattle.std.specs.Prelude.{◌≡◌, ℕ, ◌+◌, ◌-◌, ◌/◌, ◌^◌, ◌<◌, ◌≤◌, Bool, true, false, cond, ℤ, pos, negsuc, ◌-ℤ◌, ◌≤ℤ◌, Ok, Err, ◌==◌, nat_lt, unsigned_abs, refl}
+use Rattle.std.specs.Prelude.{◌≡◌, ℕ, ◌+◌, ◌-◌, ◌/◌, ◌^◌, ◌<◌, ◌≤◌, Bool, true, false, cond, ℤ, pos, negsuc, ◌-ℤ◌, ◌≤ℤ◌, Ok, Err, ◌==◌, nat_lt, refl}
 use Rattle.std.proofs.Common.{sym, subst, arith, pow_mono}
 use Rattle.std.proofs.lemmas.Nat.{pow_pos, mod_below}
 use Rattle.std.proofs.lemmas.Int.{ints}
@@ -8,13 +8,11 @@ use Rattle.forms.specs.declared.load.Reading.TheVariants.{NoNumber}
 use Rattle.forms.specs.declared.refusal.Cause.TheVariants.{BitsTooWide}
 use Rattle.forms.specs.Refusals.{refused}
 use Rattle.forms.specs.Loads.{signed, endless, Sound, SoundReading}
-use Rattle.forms.proofs.Soundness.{sound_load_of, signed_size as size_of_signed}
+use Rattle.forms.proofs.Exponents.{twice_less}
+use Rattle.forms.proofs.Soundness.{sound_load_of, signed_size}
 use Rattle.float.specs.Formats.{Lawful, exp_max, exp_min}
 use Rattle.float.specs.Floats.{sign_of, biased_of, trailing_of, scaled, of_fields, float_of, float_reads}
-use Rattle.float.specs.Fields.{exponents, exp_max_some, twice_less}
-
-signed_size : (s : Bool) (n : ℕ) → unsigned_abs (signed s n) ≡ n
-signed_size = size_of_signed
+use Rattle.float.specs.Fields.{exponents, exp_max_some}
 
 endless_sound : (s : Bool) → SoundReading (endless s)
 endless_sound false = tt

@@ -11,11 +11,12 @@ use Rattle.forms.specs.declared.refusal.Cause.TheVariants.{BitsTooWide}
 use Rattle.forms.specs.Refusals.{Refused, refused}
 use Rattle.forms.specs.Loads.{nat_of, signed, load_of, worth, endless}
 use Rattle.forms.specs.Forms.{ReadsAs, Shown}
+use Rattle.forms.proofs.Exponents.{twice_less}
 use Rattle.forms.proofs.Orders.{nat_of_up}
 use Rattle.float.specs.Formats.{Lawful, exp_max, exp_min}
 use Rattle.float.specs.Floats.{sign_of, biased_of, trailing_of, of_fields, float_of, float_reads}
 use Rattle.float.specs.Writings.{sign_bit, infinity, packed}
-use Rattle.float.specs.Fields.{twice_less, exponents, exp_max_some, sign_place}
+use Rattle.float.specs.Fields.{exponents, exp_max_some, sign_place}
 use Rattle.forms.proofs.Soundness.{worth_load_of, signed_units, signed_size}
 use Rattle.float.specs.Significands.{next_place}
 

@@ -3,6 +3,7 @@ use Rattle.std.specs.Prelude.{ℕ, ◌+◌, ◌-◌, ◌*◌, ◌^◌, Bool, tru
 use Rattle.std.specs.Int.{int_max}
 use Rattle.forms.specs.Loads.{nat_of}
 use Rattle.forms.specs.Forms.{Writing, Meaning, form_of}
+use Rattle.float.specs.declared.format.Format.{Ghosts as FormatOf}
 use Rattle.float.specs.Formats.{exp_min}
 use Rattle.float.specs.Floats.{float_reads}
 
@@ -43,3 +44,7 @@ float_writing width prec =
 -- the form of this width and precision, by its meaning
 abbrev pub float_form : ℕ → ℕ → Meaning
 float_form width prec = form_of (float_reads width prec) (float_writing width prec)
+
+-- the form of a format, by its meaning
+abbrev pub meaning : {F : Type 0} → FormatOf F → Meaning
+meaning format = float_form format.WIDTH format.PREC

@@ -1,27 +1,19 @@
 // The format of bfloat16: the upper half of a single.
-ghost use Rattle.std.proofs.Common.{rules};
+ghost use Rattle.float.specs.Formats.{bfloat16};
 
 use crate::format::Format;
 
-#[derive(Clone, Copy)]
+#[derive(Clone, Copy, PartialEq, Eq, Hash, Debug, Default)]
 pub struct Bf16;
 
 impl Format for Bf16 {
-    ghost width = { 16 };
-
-    ghost prec = { 8 };
-
     const WIDTH: u32 = 16;
+
+    ghost WIDTH = { 16 };
 
     const PREC: u32 = 8;
 
-    ghost lawful = { Prim.search rules };
+    ghost PREC = { 8 };
 
-    fn width_bits() -> u32 {
-        Self::WIDTH
-    }
-
-    fn precision() -> u32 {
-        Self::PREC
-    }
+    ghost lawful = { bfloat16 };
 }

@@ -1,76 +1,52 @@
 // The formats of IEEE 754: half, single and double precision.
-ghost use Rattle.std.proofs.Common.{rules};
+ghost use Rattle.float.specs.Formats.{binary16, binary32, binary64};
 
 use crate::format::Format;
 
 // binary16
-#[derive(Clone, Copy)]
+#[derive(Clone, Copy, PartialEq, Eq, Hash, Debug, Default)]
 pub struct F16;
 
 impl Format for F16 {
-    ghost width = { 16 };
-
-    ghost prec = { 11 };
-
     const WIDTH: u32 = 16;
+
+    ghost WIDTH = { 16 };
 
     const PREC: u32 = 11;
 
-    ghost lawful = { Prim.search rules };
+    ghost PREC = { 11 };
 
-    fn width_bits() -> u32 {
-        Self::WIDTH
-    }
-
-    fn precision() -> u32 {
-        Self::PREC
-    }
+    ghost lawful = { binary16 };
 }
 
 // binary32
-#[derive(Clone, Copy)]
+#[derive(Clone, Copy, PartialEq, Eq, Hash, Debug, Default)]
 pub struct F32;
 
 impl Format for F32 {
-    ghost width = { 32 };
-
-    ghost prec = { 24 };
-
     const WIDTH: u32 = 32;
+
+    ghost WIDTH = { 32 };
 
     const PREC: u32 = 24;
 
-    ghost lawful = { Prim.search rules };
+    ghost PREC = { 24 };
 
-    fn width_bits() -> u32 {
-        Self::WIDTH
-    }
-
-    fn precision() -> u32 {
-        Self::PREC
-    }
+    ghost lawful = { binary32 };
 }
 
 // binary64
-#[derive(Clone, Copy)]
+#[derive(Clone, Copy, PartialEq, Eq, Hash, Debug, Default)]
 pub struct F64;
 
 impl Format for F64 {
-    ghost width = { 64 };
-
-    ghost prec = { 53 };
-
     const WIDTH: u32 = 64;
+
+    ghost WIDTH = { 64 };
 
     const PREC: u32 = 53;
 
-    ghost lawful = { Prim.search rules };
+    ghost PREC = { 53 };
 
-    fn width_bits() -> u32 {
-        Self::WIDTH
-    }
-
-    fn precision() -> u32 {
-        Self::PREC
-    }
+    ghost lawful = { binary64 };
 }

@@ -7,7 +7,7 @@ use crate::format::Format;
 use forms::{Cause, Reading, Refusal, Source, words};
 
 // A float form, of a format that its type names.
-#[derive(Clone, Copy)]
+#[derive(Clone, Copy, PartialEq, Eq, Hash, Debug, Default)]
 pub struct Float<F> {
     format: F,
 }
@@ -22,13 +22,13 @@ impl<F> Float<F> {
 }
 
 impl<F: Format> Source for Float<F> {
-    ghost reads = { λ f bits. float_reads F.Format.width F.Format.prec bits };
+    ghost reads = { λ f bits. float_reads F.WIDTH F.PREC bits };
 
-    ghost sound = { λ s bits. float_sound F.Format.width F.Format.prec bits F.Format.lawful };
+    ghost sound = { λ s bits. float_sound F.WIDTH F.PREC bits F.lawful };
 
     fn read(&self, bits: u64) -> Result<Reading, Refusal> {
-        if words::fits(bits, F::width_bits()) {
-            Ok(kind(F::width_bits(), F::precision(), bits))
+        if words::fits(bits, F::WIDTH) {
+            Ok(kind::<F>(bits))
         } else {
             Err(Refusal::new(Cause::BitsTooWide))
         }

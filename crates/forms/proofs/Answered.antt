@@ -1,5 +1,6 @@
 -- What the code's steps answer for an amount, by its sign and size.
-use Rattle.std.proofs.Common.{◌≡◌, ℕ, zero, suc, ◌*◌, ◌^◌, ◌<◌, Bool, true, false, ◌≢◌, ◌⊎◌, ℤ, pos, ◌-ℤ◌, neg_ℤ, nat_abs, Result, sym, refl, ap, ◌∙◌, subst, ap₂, inl, inr, ⊎_elim, zero-mul, arith}
+use Rattle.std.proofs.Common.{◌≡◌, ℕ, zero, suc, ◌*◌, ◌^◌, ◌<◌, Bool, true, false, ◌≢◌, ◌⊎◌, ℤ, pos, ◌-ℤ◌, neg_ℤ, nat_abs, Result, SFits, w32, to_z, of_z, sym, refl, ap, ◌∙◌, subst, ap₂, inl, inr, ⊎_elim, zero-mul, arith}
+use Rattle.std.proofs.Math.Facts.{to_z-of_z}
 use Rattle.std.proofs.lemmas.Int.{ints}
 use Rattle.std.proofs.lemmas.Bool.{cases_eq, cases_order}
 use Rattle.forms.specs.declared.direction.Direction.{Direction}
@@ -30,6 +31,10 @@ turned_standing true m n =
 -- an answer that reads as a load is not infinite
 pub facing_load : (reads : ℕ → Result Reading Refused) (bits : ℕ) (x : ℤ) (d : Direction) → ReadsAs reads bits x → d ≡ facing (reads bits) d
 facing_load reads bits x d r = ap (λ z. facing z d) (sym r.1)
+
+-- a number of 32 bits stands for what it was found to be
+pub word_is : {z x : ℤ} → SFits w32 z → z ≡ x → to_z w32 (of_z w32 z) ≡ x
+word_is f e = to_z-of_z f ∙ e
 
 -- the steps: an exponent, a grain for it, and the rounding to it
 module _ (f : Meaning) (b : Bool) (n : ℕ) (e g : ℤ) (r : Grains) (e_is : e ≡ exponent n) (g_is : g ≡ f.writing.grain e) (r_is : r ≡ rounded_to (unit g) n) where

@@ -1,6 +1,8 @@
 -- What shifts and masks of a 64-bit word keep and lose.
 use Rattle.std.proofs.Common.{◌≡◌, ℕ, ◌+◌, ◌-◌, ◌*◌, ◌/◌, ◌%◌, ◌^◌, ◌<◌, ◌≤◌, ltb, leb, sym, ap, ◌∙◌, mul-le-mul_right, mod-eq_of_lt, one-mul, arith, pow_mono}
-use Rattle.std.proofs.lemmas.Nat.{pow_pos, field_of, shl-shr, mod_below, shl_below}
+use lib.Bits.{bit_and}
+use Rattle.std.proofs.lemmas.Nat.{one_shl, and_mask, pow_pos, field_of, shl-shr, mod_below, shl_below}
+use Rattle.std.proofs.lemmas.Bool.{le-leb, lt-ltb}
 use Rattle.std.proofs.lemmas.Bool.Decides.{nat_tests}
 
 pub shl_kept : (a k : ℕ) → a * 2 ^ k < 2 ^ 64 → (a * 2 ^ k) % 2 ^ 64 ≡ a * 2 ^ k
@@ -44,3 +46,15 @@ wide n k h l = let m : 2 ^ 64 ≤ 2 ^ k = pow_mono l in omega arith
 -- and the lowest of them are all that it has
 pub wide_low : (n k : ℕ) → n < 2 ^ 64 → 64 ≤ k → n % 2 ^ 64 ≡ n % 2 ^ k
 wide_low n k h l = let w = wide n k h l in mod-eq_of_lt h ∙ sym (mod-eq_of_lt w)
+
+-- a mask of k ones takes the lowest k digits
+pub ones_take : (n k : ℕ) → k < 64 → bit_and n (1 * 2 ^ k % 2 ^ 64 - 1) ≡ n % 2 ^ k
+ones_take n k h = ap (λ x. bit_and n (x - 1)) (one_shl k 64 h) ∙ and_mask n k
+
+-- a whole word of ones takes every digit
+pub word_take : (n k : ℕ) → n < 2 ^ 64 → 64 ≤ k → n % 2 ^ k ≡ bit_and n (2 ^ 64 - 1)
+word_take n k h l = sym (and_mask n 64 ∙ wide_low n k h l)
+
+-- and covers every word
+pub word_cover : (n k : ℕ) → n < 2 ^ 64 → 64 ≤ k → ltb n (2 ^ k) ≡ leb n (2 ^ 64 - 1)
+word_cover n k h l = lt-ltb n (2 ^ k) (wide n k h l) ∙ sym (le-leb n (2 ^ 64 - 1) (omega arith))

@@ -4,8 +4,16 @@ use Rattle.forms.specs.declared.load.Reading.{Reading}
 use Rattle.forms.specs.declared.load.Reading.TheVariants.{NoNumber, EndlessUp, EndlessDown, Finite}
 use Rattle.forms.specs.declared.cmp.Comparison.{Comparison}
 use Rattle.forms.specs.declared.cmp.Comparison.TheVariants.{Less, Equal, More, Unordered}
+use Rattle.std.specs.declared.cmp.Ordering.{Ordering}
+use Rattle.std.specs.declared.cmp.Ordering.TheVariants.{Less as Before, Equal as Level, Greater as After}
 use Rattle.forms.specs.Refusals.{Refused}
 use Rattle.forms.specs.Loads.{worth}
+
+-- the comparison that an order of two numbers is
+abbrev pub from_ordering : Ordering → Comparison
+from_ordering Before = Less
+from_ordering Level = Equal
+from_ordering After = More
 
 -- the comparison of two amounts
 abbrev pub ordered : ℤ → ℤ → Comparison

@@ -6,3 +6,4 @@ pub mod Amounts
 pub mod Forms
 pub mod Conversions
 pub mod Roundings
+pub mod Spellings

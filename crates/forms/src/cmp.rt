@@ -3,15 +3,21 @@
 ghost use Rattle.std.specs.Prelude.{◌≡◌, ◌*◌, ◌^◌, ◌≤◌, pos, ◌≤ℤ◌, Some, None, nat_eq};
 ghost use Rattle.forms.specs.declared.load.Reading.{Reading};
 ghost use Rattle.forms.specs.Refusals.{told};
-ghost use Rattle.forms.specs.Loads.{SoundLoad, SoundReading, worth};
-ghost use Rattle.forms.specs.Comparisons.{ordered, against, compared, equality, is_equal, mirrored};
+ghost use Rattle.forms.specs.Loads.{SoundReading, worth};
+ghost use Rattle.forms.specs.Comparisons.{from_ordering, ordered, against, compared, equality, is_equal, mirrored};
+ghost use Rattle.forms.specs.Spellings.{Spells, comparison_word};
 
-use crate::load::{Load, Reading};
+use crate::load::Reading;
+use crate::ranged::RangedLoad;
 use crate::refusal::Refusal;
 use crate::source::Source;
+use crate::text::UnknownWord;
+use std::cmp::Ordering;
+use std::fmt;
+use std::str::FromStr;
 
 // How one reading stands to another; unordered where either is no number.
-#[derive(Clone, Copy, PartialEq, Eq)]
+#[derive(Clone, Copy, Debug, PartialEq, Eq, Hash)]
 pub enum Comparison {
     Less,
     Equal,
@@ -34,6 +40,49 @@ impl Comparison {
     }
 }
 
+// Of two numbers that the library compares.
+impl From<Ordering> for Comparison {
+    ghost from_gives = { λ ordering result. result ≡ from_ordering ordering };
+
+    fn from(ordering: Ordering) -> Comparison {
+        match ordering {
+            Ordering::Less => Comparison::Less,
+            Ordering::Equal => Comparison::Equal,
+            Ordering::Greater => Comparison::More,
+        }
+    }
+}
+
+impl fmt::Display for Comparison {
+    ghost output = { λ c. Some (comparison_word c) };
+
+    fn fmt<W: fmt::Write>(&self, f: &mut fmt::Formatter<W>) -> fmt::Result {
+        f.write_str(match self {
+            Comparison::Less => "less",
+            Comparison::Equal => "equal",
+            Comparison::More => "more",
+            Comparison::Unordered => "none",
+        })
+    }
+}
+
+// From the word that is printed for it.
+impl FromStr for Comparison {
+    type Err = UnknownWord;
+
+    ghost from_str_gives = { Spells comparison_word };
+
+    fn from_str(word: &str) -> Result<Comparison, UnknownWord> {
+        match word {
+            "less" => Ok(Comparison::Less),
+            "equal" => Ok(Comparison::Equal),
+            "more" => Ok(Comparison::More),
+            "none" => Ok(Comparison::Unordered),
+            _ => Err(UnknownWord),
+        }
+    }
+}
+
 // The right size moved up to the left load's scale; none where 64 bits do not hold it.
 fn float_rhs_shl(rhs_size: u64, rhs_shl: u32) -> Option<u64>
     ensures { elim result [ Some size ↦ size ≡ rhs_size * 2 ^ rhs_shl | None ↦ 2 ^ 64 ≤ rhs_size * 2 ^ rhs_shl ] }
@@ -41,24 +90,10 @@ fn float_rhs_shl(rhs_size: u64, rhs_shl: u32) -> Option<u64>
     if rhs_size == 0 {
         return Some(0);
     }
-    if rhs_shl >= 64 {
-        return None;
-    }
-    let shifted = rhs_size << rhs_shl;
-    if shifted >> rhs_shl == rhs_size {
-        Some(shifted)
-    } else {
-        None
-    }
-}
-
-// Whether two sizes are equal, the right one moved up.
-fn eq_sizes(lhs_size: u64, rhs_size: u64, rhs_shl: u32) -> bool
-    ensures { result ≡ nat_eq lhs_size (rhs_size * 2 ^ rhs_shl) }
-{
-    match float_rhs_shl(rhs_size, rhs_shl) {
-        None => false,
-        Some(shifted) => lhs_size == shifted,
+    match rhs_size.checked_shl(rhs_shl) {
+        Some(shifted) if shifted >> rhs_shl == rhs_size => Some(shifted),
+        Some(_) => None,
+        None => None,
     }
 }
 
@@ -69,83 +104,42 @@ fn cmp_sizes(lhs_size: u64, rhs_size: u64, rhs_shl: u32) -> Comparison
     match float_rhs_shl(rhs_size, rhs_shl) {
         // the right size is so large that it does not fit
         None => Comparison::Less,
-        Some(shifted) => {
-            if lhs_size < shifted {
-                Comparison::Less
-            } else if lhs_size == shifted {
-                Comparison::Equal
-            } else {
-                Comparison::More
-            }
-        }
+        Some(shifted) => lhs_size.cmp(&shifted).into(),
     }
-}
-
-// Whether two loads are worth the same, the left one no coarser than the right one.
-fn eq_aligned(lhs: Load, rhs: Load) -> bool
-    requires left { SoundLoad lhs }
-    requires right { SoundLoad rhs }
-    requires finer { rhs.scale ≤ℤ lhs.scale }
-    ensures { result ≡ is_equal (ordered (worth lhs) (worth rhs)) }
-{
-    if lhs.negative != rhs.negative {
-        return false;
-    }
-    eq_sizes(lhs.size, rhs.size, (lhs.scale - rhs.scale) as u32)
 }
 
 // The comparison of two loads, the left one no coarser than the right one.
-fn cmp_aligned(lhs: Load, rhs: Load) -> Comparison
-    requires left { SoundLoad lhs }
-    requires right { SoundLoad rhs }
-    requires finer { rhs.scale ≤ℤ lhs.scale }
-    ensures { result ≡ ordered (worth lhs) (worth rhs) }
+fn cmp_aligned(lhs: RangedLoad, rhs: RangedLoad) -> Comparison
+    requires { rhs.load.scale ≤ℤ lhs.load.scale }
+    ensures { result ≡ ordered (worth lhs.load) (worth rhs.load) }
 {
-    if lhs.negative != rhs.negative {
-        return if lhs.negative {
+    if lhs.load.negative != rhs.load.negative {
+        return if lhs.load.negative {
             Comparison::Less
         } else {
             Comparison::More
         };
     }
-    let sizes = cmp_sizes(lhs.size, rhs.size, (lhs.scale - rhs.scale) as u32);
-    if lhs.negative { sizes.reverse() } else { sizes }
-}
-
-// Whether two loads are worth the same.
-fn float_eq_even(lhs: Load, rhs: Load) -> bool
-    requires { (SoundLoad lhs) × (SoundLoad rhs) }
-    ensures { result ≡ is_equal (ordered (worth lhs) (worth rhs)) }
-{
-    if lhs.scale < rhs.scale {
-        eq_aligned(rhs, lhs)
+    let sizes = cmp_sizes(
+        lhs.load.size,
+        rhs.load.size,
+        (lhs.load.scale - rhs.load.scale) as u32,
+    );
+    if lhs.load.negative {
+        sizes.reverse()
     } else {
-        eq_aligned(lhs, rhs)
+        sizes
     }
 }
 
 // The comparison of two loads.
-fn float_cmp_even(lhs: Load, rhs: Load) -> Comparison
-    requires { (SoundLoad lhs) × (SoundLoad rhs) }
-    ensures { result ≡ ordered (worth lhs) (worth rhs) }
+fn float_cmp_even(lhs: RangedLoad, rhs: RangedLoad) -> Comparison
+    ensures { result ≡ ordered (worth lhs.load) (worth rhs.load) }
 {
-    if lhs.scale < rhs.scale {
+    if lhs.load.scale < rhs.load.scale {
         cmp_aligned(rhs, lhs).reverse()
     } else {
         cmp_aligned(lhs, rhs)
-    }
-}
-
-// Whether two readings are equal: endless ones are equal to themselves, and no number is equal to nothing.
-fn eq(lhs: Reading, rhs: Reading) -> bool
-    requires { (SoundReading lhs) × (SoundReading rhs) }
-    ensures { result ≡ is_equal (against lhs rhs) }
-{
-    match (lhs, rhs) {
-        (Reading::Finite(lhs), Reading::Finite(rhs)) => float_eq_even(lhs, rhs),
-        (Reading::EndlessUp, Reading::EndlessUp) => true,
-        (Reading::EndlessDown, Reading::EndlessDown) => true,
-        _ => false,
     }
 }
 
@@ -157,7 +151,9 @@ fn partial_cmp(lhs: Reading, rhs: Reading) -> Comparison
     match (lhs, rhs) {
         (Reading::NoNumber, _) => Comparison::Unordered,
         (_, Reading::NoNumber) => Comparison::Unordered,
-        (Reading::Finite(lhs), Reading::Finite(rhs)) => float_cmp_even(lhs, rhs),
+        (Reading::Finite(lhs), Reading::Finite(rhs)) => {
+            float_cmp_even(RangedLoad { load: lhs }, RangedLoad { load: rhs })
+        }
         (Reading::EndlessUp, Reading::EndlessUp) => Comparison::Equal,
         (Reading::EndlessDown, Reading::EndlessDown) => Comparison::Equal,
         (Reading::EndlessUp, _) => Comparison::More,
@@ -190,7 +186,6 @@ pub fn equal<A: Source, B: Source>(
 ) -> Result<bool, Refusal>
     ensures { told result ≡ equality (compared (A.Source.reads left.now left_bits) (B.Source.reads right.now right_bits)) }
 {
-    let lhs = left.read(left_bits)?;
-    let rhs = right.read(right_bits)?;
-    Ok(eq(lhs, rhs))
+    let comparison = compare(left, left_bits, right, right_bits)?;
+    Ok(comparison == Comparison::Equal)
 }

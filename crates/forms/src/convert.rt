@@ -1,14 +1,15 @@
 // Conversion of what a source reads into a form.
-ghost use Rattle.std.specs.Prelude.{◌≡◌, ◌<◌, Ok};
+ghost use Rattle.std.specs.Prelude.{◌≡◌};
 ghost use Rattle.forms.specs.Refusals.{told};
-ghost use Rattle.forms.specs.Loads.{weight, worth, SoundLoad, SoundReading};
+ghost use Rattle.forms.specs.Loads.{weight, worth};
 ghost use Rattle.forms.specs.Forms.{form_of};
 ghost use Rattle.forms.specs.Conversions.{facing, answered, plain as plain_of, clamped as clamped_of, converted, converted_clamped, NearestAnswer, NearestConversion};
 ghost use Rattle.forms.specs.Roundings.{turned};
 
 use crate::direction::Direction;
 use crate::form::Form;
-use crate::load::{Load, Reading};
+use crate::load::Reading;
+use crate::ranged::{NonZeroLoad, RangedLoad};
 use crate::refusal::{Cause, Refusal};
 use crate::round;
 use crate::source::Source;
@@ -36,15 +37,14 @@ fn turned(negative: bool, direction: Direction) -> Direction
 }
 
 // A load other than 0 in a form: bits, direction and flag.
-fn write_into<F: Form>(load: Load, form: &F) -> (u64, Direction, bool)
-    requires some { 0 < load.size }
-    requires sound { SoundLoad load }
-    ensures { result ≡ answered (form_of (F.Source.reads form.now) (F.Form.writing form.now)) load.negative (weight load) }
+fn write_into<F: Form>(exact: NonZeroLoad, form: &F) -> (u64, Direction, bool)
+    ensures { result ≡ answered (form_of (F.Source.reads form.now) (F.Form.writing form.now)) exact.load.negative (weight exact.load) }
 {
-    let e = round::exponent(load);
-    let grains = round::rounded(load, form.grain(e));
-    let (bits, over) = form.write(load.negative, e, grains.low, grains.more);
-    let direction = turned(load.negative, grains.direction);
+    let negative = exact.load.negative;
+    let e = round::exponent(exact);
+    let grains = round::rounded(exact, form.grain(e));
+    let (bits, over) = form.write(negative, e, grains.low, grains.more);
+    let direction = turned(negative, grains.direction);
     if over {
         (bits, facing(form, bits, direction), true)
     } else {
@@ -53,52 +53,25 @@ fn write_into<F: Form>(load: Load, form: &F) -> (u64, Direction, bool)
 }
 
 // A load in a form.
-fn load_into<F: Form>(load: Load, form: &F) -> (u64, Direction, bool)
-    requires { SoundLoad load }
-    ensures value { result ≡ plain_of (form_of (F.Source.reads form.now) (F.Form.writing form.now)) (worth load) }
-    ensures nearest { NearestAnswer (form_of (F.Source.reads form.now) (F.Form.writing form.now)) (worth load) result }
+fn load_into<F: Form>(exact: RangedLoad, form: &F) -> (u64, Direction, bool)
+    ensures value { result ≡ plain_of (form_of (F.Source.reads form.now) (F.Form.writing form.now)) (worth exact.load) }
+    ensures nearest { NearestAnswer (form_of (F.Source.reads form.now) (F.Form.writing form.now)) (worth exact.load) result }
 {
+    let load = exact.load;
     if load.size == 0 {
         (form.zero(), Direction::Equal, false)
     } else {
-        write_into(load, form)
+        write_into(NonZeroLoad { load }, form)
     }
 }
 
 // The same, clamped.
-fn clamped_into<F: Form>(load: Load, form: &F) -> u64
-    requires { SoundLoad load }
-    ensures { result ≡ clamped_of (form_of (F.Source.reads form.now) (F.Form.writing form.now)) (worth load) }
+fn clamped_into<F: Form>(exact: RangedLoad, form: &F) -> u64
+    ensures { result ≡ clamped_of (form_of (F.Source.reads form.now) (F.Form.writing form.now)) (worth exact.load) }
 {
-    let (bits, _, over) = load_into(load, form);
+    let load = exact.load;
+    let (bits, _, over) = load_into(exact, form);
     if over { form.edge(load.negative) } else { bits }
-}
-
-// A reading in a form, plain.
-fn plain_reading<F: Form>(reading: Reading, form: &F) -> Result<(u64, Direction, bool), Refusal>
-    requires { SoundReading reading }
-    ensures value { told result ≡ converted (form_of (F.Source.reads form.now) (F.Form.writing form.now)) (Ok reading) }
-    ensures nearest { NearestConversion (form_of (F.Source.reads form.now) (F.Form.writing form.now)) (Ok reading) result }
-{
-    match reading {
-        Reading::NoNumber => Err(Refusal::new(Cause::NoNumber)),
-        Reading::EndlessUp => Err(Refusal::new(Cause::Endless)),
-        Reading::EndlessDown => Err(Refusal::new(Cause::Endless)),
-        Reading::Finite(load) => Ok(load_into(load, form)),
-    }
-}
-
-// A reading in a form, clamped.
-fn clamped_reading<F: Form>(reading: Reading, form: &F) -> Result<u64, Refusal>
-    requires { SoundReading reading }
-    ensures { told result ≡ converted_clamped (form_of (F.Source.reads form.now) (F.Form.writing form.now)) (Ok reading) }
-{
-    match reading {
-        Reading::NoNumber => Err(Refusal::new(Cause::NoNumber)),
-        Reading::EndlessUp => Ok(form.edge(false)),
-        Reading::EndlessDown => Ok(form.edge(true)),
-        Reading::Finite(load) => Ok(clamped_into(load, form)),
-    }
 }
 
 // What a source reads, in a form: bits, how they stand to the exact load before any wrap, and a flag, which is set where the form does not show the
@@ -112,8 +85,12 @@ pub fn plain<S: Source, F: Form>(
     ensures value { told result ≡ converted (form_of (F.Source.reads form.now) (F.Form.writing form.now)) (S.Source.reads source.now bits) }
     ensures nearest { NearestConversion (form_of (F.Source.reads form.now) (F.Form.writing form.now)) (S.Source.reads source.now bits) result }
 {
-    let reading = source.read(bits)?;
-    plain_reading(reading, form)
+    match source.read(bits)? {
+        Reading::NoNumber => Err(Refusal::new(Cause::NoNumber)),
+        Reading::EndlessUp => Err(Refusal::new(Cause::Endless)),
+        Reading::EndlessDown => Err(Refusal::new(Cause::Endless)),
+        Reading::Finite(load) => Ok(load_into(RangedLoad { load }, form)),
+    }
 }
 
 // The same, clamped: bits alone, which are the edge of the load's sign where the plain answer is flagged, and the edge of its sign for something
@@ -121,6 +98,10 @@ pub fn plain<S: Source, F: Form>(
 pub fn clamped<S: Source, F: Form>(source: &S, bits: u64, form: &F) -> Result<u64, Refusal>
     ensures { told result ≡ converted_clamped (form_of (F.Source.reads form.now) (F.Form.writing form.now)) (S.Source.reads source.now bits) }
 {
-    let reading = source.read(bits)?;
-    clamped_reading(reading, form)
+    match source.read(bits)? {
+        Reading::NoNumber => Err(Refusal::new(Cause::NoNumber)),
+        Reading::EndlessUp => Ok(form.edge(false)),
+        Reading::EndlessDown => Ok(form.edge(true)),
+        Reading::Finite(load) => Ok(clamped_into(RangedLoad { load }, form)),
+    }
 }

@@ -8,9 +8,11 @@ pub mod direction;
 mod form;
 mod load;
 mod purchase;
+mod ranged;
 mod refusal;
 mod round;
 mod source;
+mod text;
 pub mod words;
 
 pub use cmp::Comparison;
@@ -20,3 +22,4 @@ pub use load::{Load, Reading};
 pub use purchase::{Factor, Purchase};
 pub use refusal::{Cause, Refusal};
 pub use source::Source;
+pub use text::UnknownWord;

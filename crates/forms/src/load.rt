@@ -4,7 +4,7 @@ ghost use Rattle.forms.specs.Loads.{nat_of, signed, load_of, worth, endless};
 // A load: a number of kilonewtons, worth size / 2^scale, or minus that. Zero has size 0, scale 0 and no sign.
 // The loads that sources read have scales from -1,000 to 1,074.
 // Loads are equal when their worth is equal, whatever their scales, so there is no `==` on them: see `cmp::equal`.
-#[derive(Clone, Copy)]
+#[derive(Clone, Copy, Debug)]
 pub struct Load {
     // whether it is below 0
     pub negative: bool,
@@ -35,7 +35,7 @@ impl Load {
 }
 
 // A reading: what a source says that bits stand for, where it does not refuse them.
-#[derive(Clone, Copy)]
+#[derive(Clone, Copy, Debug)]
 pub enum Reading {
     // nothing that could be compared
     NoNumber,

@@ -1,26 +1,28 @@
 ghost use Rattle.std.specs.Prelude.{◌≡◌, Ok, Err};
 ghost use Rattle.forms.specs.Refusals.{told};
-ghost use Rattle.forms.specs.Loads.{SoundLoad, SoundReading};
 ghost use Rattle.forms.specs.Purchases.{doublings, factor_of, raise_load, layered, times, Counts};
 ghost use Rattle.std.proofs.Common.{rules};
 
 use crate::load::{Load, Reading};
+use crate::ranged::RangedLoad;
 use crate::refusal::{Cause, Refusal};
 use crate::source::Source;
 
 // The factor of a purchase: a rope rove double, twice double or thrice double, under which a load counts 2, 4 or 8 times.
-#[derive(Clone, Copy, PartialEq, Eq)]
+#[derive(Clone, Copy, Debug, PartialEq, Eq, Hash)]
 pub enum Factor {
     Two,
     Four,
     Eight,
 }
 
-impl Factor {
-    // Refused unless the number is 2, 4 or 8.
-    pub fn new(factor: u32) -> Result<Factor, Refusal>
-        ensures { told result ≡ factor_of factor }
-    {
+// Refused unless the number is 2, 4 or 8.
+impl TryFrom<u32> for Factor {
+    type Error = Refusal;
+
+    ghost try_from_gives = { λ factor result. told result ≡ factor_of factor };
+
+    fn try_from(factor: u32) -> Result<Factor, Refusal> {
         match factor {
             2 => Ok(Factor::Two),
             4 => Ok(Factor::Four),
@@ -28,7 +30,9 @@ impl Factor {
             _ => Err(Refusal::new(Cause::UnlawfulFactor)),
         }
     }
+}
 
+impl Factor {
     // The factor is two to this power.
     fn doublings(self) -> u8
         ensures { result ≡ doublings self }
@@ -54,16 +58,16 @@ impl<S: Drop> Purchase<S> {
     pub fn new(source: S, factor: u32) -> Result<Purchase<S>, Refusal>
         ensures { elim result [ Ok p ↦ (p.source ≡ source) × (Ok p.factor ≡ factor_of factor) | Err e ↦ told (Err e) ≡ factor_of factor ] }
     {
-        let factor = Factor::new(factor)?;
+        let factor = Factor::try_from(factor)?;
         Ok(Purchase { source, factor })
     }
 }
 
 // The load of a source as it counts under a layer.
-fn raise_load(factor: Factor, load: Load) -> Result<Reading, Refusal>
-    requires { SoundLoad load }
-    ensures { told result ≡ raise_load factor load }
+fn raise_load(factor: Factor, below: RangedLoad) -> Result<Reading, Refusal>
+    ensures { told result ≡ raise_load factor below.load }
 {
+    let load = below.load;
     if load.size == 0 {
         return Ok(Reading::Finite(load));
     }
@@ -71,22 +75,7 @@ fn raise_load(factor: Factor, load: Load) -> Result<Reading, Refusal>
     if scale < -1000 {
         return Err(Refusal::new(Cause::ScaleTooLow));
     }
-    Ok(Reading::Finite(Load {
-        negative: load.negative,
-        size: load.size,
-        scale,
-    }))
-}
-
-// What a source reads as it counts under a layer.
-fn raise(factor: Factor, reading: Reading) -> Result<Reading, Refusal>
-    requires { SoundReading reading }
-    ensures { told result ≡ layered factor (Ok reading) }
-{
-    match reading {
-        Reading::Finite(load) => raise_load(factor, load),
-        other => Ok(other),
-    }
+    Ok(Reading::Finite(Load { scale, ..load }))
 }
 
 impl<S: Source> Source for Purchase<S> {
@@ -99,7 +88,8 @@ impl<S: Source> Source for Purchase<S> {
         ensures counts { Counts (times self.now.factor) (S.Source.reads self.now.source bits) (told result) }
     {
         match self.source.read(bits) {
-            Ok(reading) => raise(self.factor, reading),
+            Ok(Reading::Finite(load)) => raise_load(self.factor, RangedLoad { load }),
+            Ok(other) => Ok(other),
             Err(refusal) => Err(refusal.deeper()),
         }
     }

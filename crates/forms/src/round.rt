@@ -1,12 +1,12 @@
 // A load rounded to a grain, on its 64-bit size alone: ported from `to_float_kind` and `from_to_float_helper` in float_helper.rs of the Rust crate `fixed`,
 // which round a float to a fixed number's last digit and a fixed number to a float's.
 ghost use Rattle.std.specs.Prelude.{◌≡◌, ◌+◌, ◌*◌, ◌%◌, ◌^◌, ◌<◌, ◌&&◌, ◌||◌, ◌==◌, nat_eq, nat_lt};
-ghost use Rattle.forms.specs.Loads.{weight, SoundLoad};
+ghost use Rattle.forms.specs.Loads.{weight};
 ghost use Rattle.forms.specs.Amounts.{exponent, unit, Within, InRange};
 ghost use Rattle.forms.specs.Roundings.{rounded_to};
 
 use crate::direction::Direction;
-use crate::load::Load;
+use crate::ranged::NonZeroLoad;
 use crate::words;
 
 // How many grains a size is rounded to: a whole number M.
@@ -21,14 +21,12 @@ pub(crate) struct Grains {
 }
 
 // The exponent of a load other than 0.
-pub(crate) fn exponent(load: Load) -> i32
-    requires some { 0 < load.size }
-    requires sound { SoundLoad load }
-    ensures value { result ≡ exponent (weight load) }
-    ensures within { Within (weight load) result }
+pub(crate) fn exponent(exact: NonZeroLoad) -> i32
+    ensures value { result ≡ exponent (weight exact.load) }
+    ensures within { Within (weight exact.load) result }
     ensures ranged { InRange result }
 {
-    63 - load.size.leading_zeros() as i32 - load.scale
+    63 - exact.load.size.leading_zeros() as i32 - exact.load.scale
 }
 
 // Whether what is removed moves the whole number that is left up: where it is more than half a grain, the tie, or just that and the number is odd.
@@ -96,18 +94,16 @@ fn raised(size: u64, by: u32) -> Grains
 }
 
 // A load other than 0, rounded to grains of 2^grain.
-pub(crate) fn rounded(load: Load, grain: i32) -> Grains
-    requires some { 0 < load.size }
-    requires sound { SoundLoad load }
-    requires ranged { InRange grain }
-    ensures { result ≡ rounded_to (unit grain) (weight load) }
+pub(crate) fn rounded(exact: NonZeroLoad, grain: i32) -> Grains
+    requires { InRange grain }
+    ensures { result ≡ rounded_to (unit grain) (weight exact.load) }
 {
     // how many digits of the size lie below the grain
-    let need_to_shr = grain + load.scale;
+    let need_to_shr = grain + exact.load.scale;
     if need_to_shr <= 0 {
-        raised(load.size, (-need_to_shr) as u32)
+        raised(exact.load.size, (-need_to_shr) as u32)
     } else if need_to_shr <= 64 {
-        lowered(load.size, (need_to_shr - 1) as u32)
+        lowered(exact.load.size, (need_to_shr - 1) as u32)
     } else {
         Grains {
             low: 0,

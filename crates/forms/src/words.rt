@@ -1,8 +1,10 @@
 // The binary digits of a 64-bit word.
-ghost use Rattle.std.specs.Prelude.{◌≡◌, ℕ, ◌%◌, ◌^◌, ◌<◌, bit_and, nat_le, nat_lt};
+ghost use Rattle.std.specs.Prelude.{◌≡◌, ℕ, ◌-◌, ◌%◌, ◌^◌, ◌<◌, ◌≤◌, bit_and, nat_le, nat_lt};
 
 // So many ones, 64 at most: a mask that takes the lowest digits, and the greatest number that they can be.
-fn ones(count: u32) -> u64
+#[tactic(auto, using(crate::proofs::Shifts::ones_take, crate::proofs::Shifts::word_take, crate::proofs::Shifts::word_cover))]
+pub fn ones(count: u32) -> u64
+    ensures value { count ≤ 64 → result ≡ 2 ^ count - 1 }
     ensures takes { (n : ℕ) → n < 2 ^ 64 → bit_and n result ≡ n % 2 ^ count }
     ensures covers { (n : ℕ) → n < 2 ^ 64 → nat_le n result ≡ nat_lt n (2 ^ count) }
 {

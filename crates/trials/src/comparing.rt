@@ -1,9 +1,9 @@
 // How readings of different kinds compare.
-use crate::building::built;
-use crate::reading::layer;
+use crate::refusing::check_refused;
+use fixed::Fixed;
 use float::{F16, F32, F64, Float};
 use forms::cmp::{compare, equal};
-use forms::{Comparison, Source};
+use forms::{Comparison, Purchase, Source};
 use std::process::Abort;
 use std::test::Fail;
 
@@ -16,22 +16,11 @@ fn check_compared<A: Source, B: Source>(
     b: u64,
     expected: Comparison,
 ) -> Result<(), Fail> {
-    let Ok(forth) = compare(left, a, right, b) else {
-        return Err(Fail::new("refused"));
-    };
-    let Ok(back) = compare(right, b, left, a) else {
-        return Err(Fail::new("refused"));
-    };
-    let Ok(same) = equal(left, a, right, b) else {
-        return Err(Fail::new("refused"));
-    };
-    let Ok(same_back) = equal(right, b, left, a) else {
-        return Err(Fail::new("refused"));
-    };
-    assert!(rt; forth == expected);
-    assert!(rt; back == expected.reverse());
-    assert_eq!(rt; same, expected == Comparison::Equal);
-    assert_eq!(rt; same_back, same);
+    assert_eq!(rt; compare(left, a, right, b)?, expected);
+    assert_eq!(rt; compare(right, b, left, a)?, expected.reverse());
+    let same = expected == Comparison::Equal;
+    assert_eq!(rt; equal(left, a, right, b)?, same);
+    assert_eq!(rt; equal(right, b, left, a)?, same);
     Ok(())
 }
 
@@ -39,23 +28,23 @@ fn check_compared<A: Source, B: Source>(
 fn loads(rt: HostRuntime) -> Result<(), Fail> {
     check_compared(
         &rt,
-        &built(true, 8, 4)?,
+        &Fixed::new(true, 8, 4)?,
         0x08,
-        &built(true, 16, 8)?,
+        &Fixed::new(true, 16, 8)?,
         0x0080,
         Comparison::Equal,
     )?;
     check_compared(
         &rt,
-        &built(true, 8, 0)?,
+        &Fixed::new(true, 8, 0)?,
         0xff,
-        &built(false, 64, 64)?,
+        &Fixed::new(false, 64, 64)?,
         0,
         Comparison::Less,
     )?;
     check_compared(
         &rt,
-        &built(false, 64, 64)?,
+        &Fixed::new(false, 64, 64)?,
         u64::MAX,
         &Float::new(F64),
         0x3ff0000000000000,
@@ -63,7 +52,7 @@ fn loads(rt: HostRuntime) -> Result<(), Fail> {
     )?;
     check_compared(
         &rt,
-        &built(true, 64, 0)?,
+        &Fixed::new(true, 64, 0)?,
         0x7fffffffffffffff,
         &Float::new(F64),
         0x43f0000000000000,
@@ -71,7 +60,7 @@ fn loads(rt: HostRuntime) -> Result<(), Fail> {
     )?;
     check_compared(
         &rt,
-        &built(true, 64, 0)?,
+        &Fixed::new(true, 64, 0)?,
         0x8000000000000000,
         &Float::new(F64),
         0xc3f0000000000000,
@@ -95,7 +84,7 @@ fn loads(rt: HostRuntime) -> Result<(), Fail> {
     )?;
     check_compared(
         &rt,
-        &built(false, 8, 0)?,
+        &Fixed::new(false, 8, 0)?,
         0,
         &Float::new(F16),
         0x8000,
@@ -125,7 +114,7 @@ fn no_number_and_endless(rt: HostRuntime) -> Result<(), Fail> {
     )?;
     check_compared(
         &rt,
-        &built(false, 8, 0)?,
+        &Fixed::new(false, 8, 0)?,
         0,
         &half,
         0x7e00,
@@ -146,7 +135,7 @@ fn no_number_and_endless(rt: HostRuntime) -> Result<(), Fail> {
         &rt,
         &half,
         0xfc00,
-        &built(true, 64, 0)?,
+        &Fixed::new(true, 64, 0)?,
         0x8000000000000000,
         Comparison::Less,
     )
@@ -155,21 +144,9 @@ fn no_number_and_endless(rt: HostRuntime) -> Result<(), Fail> {
 // The left reading's refusal comes first, then the right one's.
 #[test]
 fn refusals_in_order(rt: HostRuntime) -> Result<(), Fail> {
-    let left = built(true, 8, 0)?;
-    let right = layer(built(true, 16, 0)?, 2)?;
-    let Err(first) = compare(&left, 0x100, &right, 0x10000) else {
-        return Err(Fail::new("compared"));
-    };
-    assert_eq!(rt; first.cause.number(), 3);
-    assert_eq!(rt; first.depth, 0);
-    let Err(second) = compare(&left, 0xff, &right, 0x10000) else {
-        return Err(Fail::new("compared"));
-    };
-    assert_eq!(rt; second.cause.number(), 3);
-    assert_eq!(rt; second.depth, 1);
-    let Err(same) = equal(&right, 0x10000, &left, 0x100) else {
-        return Err(Fail::new("compared"));
-    };
-    assert_eq!(rt; same.depth, 1);
-    Ok(())
+    let left = Fixed::new(true, 8, 0)?;
+    let right = Purchase::new(Fixed::new(true, 16, 0)?, 2)?;
+    check_refused(&rt, compare(&left, 0x100, &right, 0x10000), 3, 0)?;
+    check_refused(&rt, compare(&left, 0xff, &right, 0x10000), 3, 1)?;
+    check_refused(&rt, equal(&right, 0x10000, &left, 0x100), 3, 1)
 }

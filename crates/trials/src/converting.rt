@@ -1,8 +1,8 @@
 // What loads become in other forms, plain and clamped.
-use crate::building::built;
-use crate::reading::layer;
+use crate::refusing::check_refused;
+use fixed::Fixed;
 use float::{Bf16, F16, F32, F64, Float};
-use forms::{Direction, Form, Refusal, Source, convert};
+use forms::{Direction, Form, Purchase, Source, convert};
 use std::process::Abort;
 use std::test::Fail;
 
@@ -17,12 +17,7 @@ fn check_plain<S: Source, F: Form>(
     form: &F,
     expected: (u64, Direction, bool),
 ) -> Result<(), Fail> {
-    let Ok((answer, direction, over)) = convert::plain(source, bits, form) else {
-        return Err(Fail::new("refused"));
-    };
-    assert_eq!(rt; answer, expected.0);
-    assert!(rt; direction == expected.1);
-    assert_eq!(rt; over, expected.2);
+    assert_eq!(rt; convert::plain(source, bits, form)?, expected);
     Ok(())
 }
 
@@ -33,36 +28,15 @@ fn check_clamped<S: Source, F: Form>(
     form: &F,
     expected: u64,
 ) -> Result<(), Fail> {
-    match convert::clamped(source, bits, form) {
-        Ok(answer) => {
-            assert_eq!(rt; answer, expected);
-            Ok(())
-        },
-        Err(_) => Err(Fail::new("refused")),
-    }
-}
-
-fn check_refusal<A: Drop>(
-    rt: &impl Abort,
-    answer: Result<A, Refusal>,
-    number: u8,
-    depth: u16,
-) -> Result<(), Fail> {
-    match answer {
-        Ok(_) => Err(Fail::new("converted")),
-        Err(refusal) => {
-            assert_eq!(rt; refusal.cause.number(), number);
-            assert_eq!(rt; refusal.depth, depth);
-            Ok(())
-        }
-    }
+    assert_eq!(rt; convert::clamped(source, bits, form)?, expected);
+    Ok(())
 }
 
 // The least whole number of 8 bits fits; the number after the greatest does not.
 #[test]
 fn edges(rt: HostRuntime) -> Result<(), Fail> {
     let single = Float::new(F32);
-    let byte = built(true, 8, 0)?;
+    let byte = Fixed::new(true, 8, 0)?;
     check_plain(
         &rt,
         &single,
@@ -80,17 +54,17 @@ fn edges(rt: HostRuntime) -> Result<(), Fail> {
     )?;
     check_clamped(&rt, &single, 0x43000000, &byte, 0x7f)?;
     let least = 0x8000000000000000;
-    let word = built(false, 64, 0)?;
+    let word = Fixed::new(false, 64, 0)?;
     check_plain(
         &rt,
-        &built(true, 64, 0)?,
+        &Fixed::new(true, 64, 0)?,
         least,
         &word,
         (least, Direction::Equal, OVER),
     )?;
-    check_clamped(&rt, &built(true, 64, 0)?, least, &word, 0)?;
+    check_clamped(&rt, &Fixed::new(true, 64, 0)?, least, &word, 0)?;
     // the greatest f64 has no digit among the lowest 64 of M
-    let fraction = built(true, 64, 64)?;
+    let fraction = Fixed::new(true, 64, 64)?;
     let most = 0x7fefffffffffffff;
     check_plain(
         &rt,
@@ -106,7 +80,7 @@ fn edges(rt: HostRuntime) -> Result<(), Fail> {
 #[test]
 fn flag_after_rounding(rt: HostRuntime) -> Result<(), Fail> {
     let single = Float::new(F32);
-    let byte = built(false, 8, 0)?;
+    let byte = Fixed::new(false, 8, 0)?;
     check_plain(
         &rt,
         &single,
@@ -144,7 +118,7 @@ fn flag_after_rounding(rt: HostRuntime) -> Result<(), Fail> {
 #[test]
 fn nearest_below_zero(rt: HostRuntime) -> Result<(), Fail> {
     let single = Float::new(F32);
-    let byte = built(true, 8, 0)?;
+    let byte = Fixed::new(true, 8, 0)?;
     check_plain(
         &rt,
         &single,
@@ -193,7 +167,7 @@ fn nearest_below_zero(rt: HostRuntime) -> Result<(), Fail> {
 // itself, and then be rounded down.
 #[test]
 fn rounded_once(rt: HostRuntime) -> Result<(), Fail> {
-    let fine = built(false, 64, 63)?;
+    let fine = Fixed::new(false, 64, 63)?;
     let bits = 0x8010000000000001;
     let half = Float::new(F16);
     check_plain(&rt, &fine, bits, &half, (0x3c01, Direction::Above, FITS))?;
@@ -255,15 +229,15 @@ fn subnormals(rt: HostRuntime) -> Result<(), Fail> {
 #[test]
 fn refusals(rt: HostRuntime) -> Result<(), Fail> {
     let half = Float::new(F16);
-    let nibbles = built(true, 8, 4)?;
-    check_refusal(&rt, convert::plain(&half, 0x7e00, &nibbles), 4, 0)?;
-    check_refusal(&rt, convert::clamped(&half, 0x7e00, &nibbles), 4, 0)?;
-    check_refusal(&rt, convert::plain(&half, 0x7c00, &nibbles), 5, 0)?;
+    let nibbles = Fixed::new(true, 8, 4)?;
+    check_refused(&rt, convert::plain(&half, 0x7e00, &nibbles), 4, 0)?;
+    check_refused(&rt, convert::clamped(&half, 0x7e00, &nibbles), 4, 0)?;
+    check_refused(&rt, convert::plain(&half, 0x7c00, &nibbles), 5, 0)?;
     check_clamped(&rt, &half, 0x7c00, &nibbles, 0x7f)?;
     check_clamped(&rt, &half, 0xfc00, &nibbles, 0x80)?;
     check_clamped(&rt, &half, 0xfc00, &Float::new(Bf16), 0xff80)?;
-    let twice = layer(built(false, 8, 0)?, 2)?;
-    check_refusal(&rt, convert::plain(&twice, 0x100, &half), 3, 1)?;
-    check_refusal(&rt, convert::clamped(&twice, 0x100, &half), 3, 1)?;
+    let twice = Purchase::new(Fixed::new(false, 8, 0)?, 2)?;
+    check_refused(&rt, convert::plain(&twice, 0x100, &half), 3, 1)?;
+    check_refused(&rt, convert::clamped(&twice, 0x100, &half), 3, 1)?;
     check_plain(&rt, &twice, 0xff, &half, (0x5ff8, Direction::Equal, FITS))
 }

@@ -10,3 +10,5 @@ mod comparing;
 mod converting;
 #[cfg(test)]
 mod reading;
+#[cfg(test)]
+mod refusing;

@@ -11,14 +11,14 @@ use Rattle.forms.proofs.round.exponent.Goals as goal
 
 pub returns : goal.returns
 returns c =
-    let l = c.args.load in
-    let s = c.requires.sound in
+    let l = c.args.exact.load in
+    let s = c.args.exact.sound in
     let k = nat_of (pos 1074 -ℤ l.scale) in
-    let (j, z, e) = exponent_of l.size k c.requires.some s.size_fits in
+    let (j, z, e) = exponent_of l.size k c.args.exact.some s.size_fits in
     let d : to_z w32 (of_z w32 (pos 63 -ℤ to_z w32 (count_leading_zeros 64 l.size))) ≡ pos j = omega (arith, ints) in
     let v : to_z w32 (of_z w32 (to_z w32 (of_z w32 (pos 63 -ℤ to_z w32 (count_leading_zeros 64 l.size))) -ℤ to_z w32 (of_z w32 l.scale))) ≡ exponent (weight l) = omega (arith, ints, nat_of_up) in
     record {
       value = v;
-      within = within (weight l) _ (mul-pos c.requires.some (pow_pos k)) (sym v);
+      within = within (weight l) _ (mul-pos c.args.exact.some (pow_pos k)) (sym v);
       ranged = record { low = omega (arith, ints, nat_of_up); high = omega (arith, ints, nat_of_up) };
     }

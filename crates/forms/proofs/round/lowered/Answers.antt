@@ -1,17 +1,8 @@
-use Rattle.std.proofs.Common.{◌+◌, ◌*◌, ◌/◌, ◌%◌, ◌^◌, ◌<◌, ap, ◌∙◌, ap₂, mod-lt, arith}
-use Rattle.std.proofs.lemmas.Nat.{pow_pos, one_shl}
+use Rattle.std.proofs.Common.{◌+◌, ◌*◌, ◌/◌, ◌^◌, ap, ◌∙◌, ap₂}
+use Rattle.std.proofs.lemmas.Nat.{one_shl}
 use Rattle.forms.specs.Roundings.{rounded_to}
-use Rattle.forms.proofs.Grained.{next_place, halved_below, parted}
+use Rattle.forms.proofs.Grained.{parted}
 use Rattle.forms.proofs.round.lowered.Goals as goal
-
-pub nearest-requires : goal.nearest-requires
-nearest-requires c =
-    let place = c.args.place in
-    let o = one_shl place 64 c.requires in
-    let r : c.args.size % 2 ^ (place + 1) < 2 ^ (place + 1) = mod-lt c.args.size (pow_pos (place + 1)) in
-    let t = next_place place in
-    let h = halved_below c.args.size place (omega arith) in
-    record { room = h; short = omega arith }
 
 pub returns : goal.returns
 returns c =

@@ -7,17 +7,17 @@ use Rattle.forms.proofs.round.rounded.Goals as goal
 
 pub returns-then-need_to_shr-le0 : goal.returns-then-need_to_shr-le0
 returns-then-need_to_shr-le0 c =
-    let l = c.args.load in
+    let l = c.args.exact.load in
     c.raised.ensures
     ∙ rounded_raised l.size (nat_of (pos 1074 -ℤ l.scale)) (nat_of (c.args.grain +ℤ pos 1074)) _ (omega (arith, ints, nat_of_up))
 
 pub returns-then-need_to_shr-le64 : goal.returns-then-need_to_shr-le64
 returns-then-need_to_shr-le64 c =
-    let l = c.args.load in
+    let l = c.args.exact.load in
     c.lowered.ensures
     ∙ rounded_lowered l.size (nat_of (pos 1074 -ℤ l.scale)) (nat_of (c.args.grain +ℤ pos 1074)) _ (omega (arith, ints, nat_of_up))
 
 pub returns-else-need_to_shr-le64 : goal.returns-else-need_to_shr-le64
 returns-else-need_to_shr-le64 c =
-    let l = c.args.load in
-    rounded_away l.size (nat_of (pos 1074 -ℤ l.scale)) (nat_of (c.args.grain +ℤ pos 1074)) c.requires.some c.requires.sound.size_fits (omega (arith, ints, nat_of_up))
+    let l = c.args.exact.load in
+    rounded_away l.size (nat_of (pos 1074 -ℤ l.scale)) (nat_of (c.args.grain +ℤ pos 1074)) c.args.exact.some c.args.exact.sound.size_fits (omega (arith, ints, nat_of_up))
