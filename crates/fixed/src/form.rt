@@ -2,8 +2,7 @@ ghost use Rattle.std.specs.Prelude.{◌≡◌, true};
 ghost use Rattle.fixed.specs.Widths.{lawful};
 
 // A fixed form: bits of this width stand for a whole number, unsigned or in two's complement, over 2^fraction.
-// It stands in a file of its own, since the definitions that name it cannot be imported where it is declared; it reads in source.rt and writes in
-// write.rt.
+// It stands in a file of its own, so that the files where it reads and writes can import the definitions that name it at their top.
 #[derive(Clone, Copy, PartialEq, Eq, Hash, Debug)]
 pub struct Fixed {
     // two's complement, or else unsigned

@@ -1,5 +1,5 @@
-// A float taken apart and put together: ported from float_helper.rs of the Rust crate `fixed`, whose constants EXP_MAX and EXP_MIN are functions of the
-// format.
+// A float taken apart and put together: ported from float_helper.rs of the Rust crate `fixed`, whose constants EXP_MAX and EXP_MIN are functions of
+// the format.
 ghost use Rattle.std.specs.Prelude.{◌≡◌, ◌+◌, ◌-◌, ◌^◌, ◌<◌, ◌≤◌, pos, negsuc, ◌-ℤ◌, ◌≤ℤ◌, ◌<ℤ◌, if◌then◌else◌, nat_eq, nat_lt};
 ghost use Rattle.forms.specs.declared.load.Reading.TheVariants.{NoNumber};
 ghost use Rattle.std.specs.Int.{int_max};
@@ -17,8 +17,7 @@ use std::marker::PhantomData;
 fn exp_max<F: Format>() -> i32
     ensures { result ≡ pos (exp_max F.WIDTH F.PREC) }
 {
-    let bias = (1u64 << (F::WIDTH - F::PREC - 1)) - 1;
-    bias as i32
+    words::ones(F::WIDTH - F::PREC - 1) as i32
 }
 
 // The least exponent of a full significand.
@@ -32,7 +31,7 @@ fn exp_min<F: Format>() -> i32
 fn exp_top<F: Format>() -> u64
     ensures { result ≡ 2 ^ (F.WIDTH - F.PREC) - 1 }
 {
-    (1 << (F::WIDTH - F::PREC)) - 1
+    words::ones(F::WIDTH - F::PREC)
 }
 
 // How many digits of a significand stand after the point.

@@ -20,8 +20,8 @@ impl<F: Format> Form for Float<F> {
         float_helper::grain::<F>(e)
     }
 
-    // A load beyond the greatest number is infinity of its sign, and flagged. One that is rounded to 0 keeps its sign bit. A significand has few enough
-    // digits for `low`, so there is no mark to look at.
+    // A load beyond the greatest number is infinity of its sign, and flagged. One that is rounded to 0 keeps its sign bit. A significand has few
+    // enough digits for `low`, so there is no mark to look at.
     fn write(&self, negative: bool, e: i32, low: u64, more: bool) -> (u64, bool)
         requires { Asked (meaning F.Format).writing e low more }
         ensures value { result ≡ (meaning F.Format).writing.write negative e low more }

@@ -1,10 +1,11 @@
 // The comparison of readings, whatever forms they come in: ported from cmp.rs of the Rust crate `fixed`. Its `Value` is a `Load` here, and every size
-// has 64 bits. The names that begin with `float` are the crate's, which compares a fixed number with a float; here both sides may be either.
-ghost use Rattle.std.specs.Prelude.{◌≡◌, ◌*◌, ◌^◌, ◌≤◌, pos, ◌≤ℤ◌, Some, None, nat_eq};
+// has 64 bits. The names that begin with `float` are the crate's, which compares a fixed number with a float; here both sides may be either. What the crate answers
+// to `==` is `equal` here, which asks the comparison.
+ghost use Rattle.std.specs.Prelude.{◌≡◌, ◌*◌, ◌^◌, ◌≤◌, pos, ◌≤ℤ◌, Some, None};
 ghost use Rattle.forms.specs.declared.load.Reading.{Reading};
 ghost use Rattle.forms.specs.Refusals.{told};
 ghost use Rattle.forms.specs.Loads.{SoundReading, worth};
-ghost use Rattle.forms.specs.Comparisons.{from_ordering, ordered, against, compared, equality, is_equal, mirrored};
+ghost use Rattle.forms.specs.Comparisons.{from_ordering, ordered, against, compared, equality, mirrored};
 ghost use Rattle.forms.specs.Spellings.{Spells, comparison_word};
 
 use crate::load::Reading;
@@ -40,7 +41,7 @@ impl Comparison {
     }
 }
 
-// Of two numbers that the library compares.
+// The comparison of two numbers, from the library's order of them.
 impl From<Ordering> for Comparison {
     ghost from_gives = { λ ordering result. result ≡ from_ordering ordering };
 

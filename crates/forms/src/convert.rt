@@ -25,7 +25,7 @@ fn facing<F: Form>(form: &F, bits: u64, direction: Direction) -> Direction
     }
 }
 
-// How amounts of a sign stand, by how their sizes do.
+// The direction of amounts with a sign, from that of their sizes.
 fn turned(negative: bool, direction: Direction) -> Direction
     ensures { result ≡ turned negative direction }
 {

@@ -4,8 +4,8 @@ ghost use Rattle.forms.specs.Forms.{Writing, form_of, rounded, ReadsAs, Coarse, 
 
 use crate::source::Source;
 
-// A form: a source that also writes. An amount L other than 0, as a load is worth, has an exponent e, the whole number with 2^e <= |L| < 2^(e+1). The form
-// names a grain g for each e from -1,074 to 1,100, and L is rounded to the nearest M × 2^g with M whole, of two equally near to the even M.
+// A form: a source that also writes. An amount L other than 0, as a load is worth, has an exponent e, the whole number with 2^e <= |L| < 2^(e+1). The
+// form names a grain g for each e from -1,074 to 1,100, and L is rounded to the nearest M × 2^g with M whole, of two equally near to the even M.
 // It shows a load if some bits read as it.
 pub trait Form: Source {
     // its grain, its write, its zero and its edges

@@ -46,7 +46,7 @@ impl Factor {
 }
 
 // A purchase layer: a source of readings whose every load counts 2, 4 or 8 times that of the source which it holds.
-#[derive(Drop)]
+#[derive(Clone, Debug, Drop, PartialEq, Eq, Hash)]
 pub struct Purchase<S> {
     // what is below the layer
     source: S,

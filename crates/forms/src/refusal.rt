@@ -10,23 +10,23 @@ use std::fmt;
 #[derive(Clone, Copy, Debug, PartialEq, Eq, Hash)]
 pub enum Cause {
     // there is no form of the width and fraction that were asked for
-    UnlawfulForm,
+    UnlawfulForm = 1,
     // a purchase layer's factor is not 2, 4 or 8
-    UnlawfulFactor,
+    UnlawfulFactor = 2,
     // the bits are 2^width or more
-    BitsTooWide,
+    BitsTooWide = 3,
     // a purchase layer would give a load other than 0 a scale below -1,000
-    ScaleTooLow,
+    ScaleTooLow = 6,
     // the bits stand for no number
-    NoNumber,
+    NoNumber = 4,
     // the bits stand for something endless, where a load is needed
-    Endless,
+    Endless = 5,
     // an exact sum has taken as many loads as it may
-    ColumnFull,
+    ColumnFull = 7,
     // a line of text is not well formed
-    MalformedLine,
+    MalformedLine = 8,
     // the buffer for an answer is too short
-    BufferTooShort,
+    BufferTooShort = 9,
 }
 
 impl Cause {
@@ -35,17 +35,7 @@ impl Cause {
         ensures value { result ≡ number_of self }
         ensures alone { (other : Cause) → number_of other ≡ result → other ≡ self }
     {
-        match self {
-            Cause::UnlawfulForm => 1,
-            Cause::UnlawfulFactor => 2,
-            Cause::BitsTooWide => 3,
-            Cause::NoNumber => 4,
-            Cause::Endless => 5,
-            Cause::ScaleTooLow => 6,
-            Cause::ColumnFull => 7,
-            Cause::MalformedLine => 8,
-            Cause::BufferTooShort => 9,
-        }
+        self as u8
     }
 }
 
@@ -88,8 +78,8 @@ impl Refusal {
         ensures { result ≡ record { cause = self.cause; depth = min (self.depth + 1) 65535 } }
     {
         Refusal {
-            cause: self.cause,
             depth: self.depth.saturating_add(1),
+            ..self
         }
     }
 }

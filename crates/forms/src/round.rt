@@ -1,5 +1,5 @@
-// A load rounded to a grain, on its 64-bit size alone: ported from `to_float_kind` and `from_to_float_helper` in float_helper.rs of the Rust crate `fixed`,
-// which round a float to a fixed number's last digit and a fixed number to a float's.
+// A load rounded to a grain, on its 64-bit size alone: ported from `to_float_kind` and `from_to_float_helper` in float_helper.rs of the Rust crate
+// `fixed`, which round a float to a fixed number's last digit and a fixed number to a float's.
 ghost use Rattle.std.specs.Prelude.{◌≡◌, ◌+◌, ◌*◌, ◌%◌, ◌^◌, ◌<◌, ◌&&◌, ◌||◌, ◌==◌, nat_eq, nat_lt};
 ghost use Rattle.forms.specs.Loads.{weight};
 ghost use Rattle.forms.specs.Amounts.{exponent, unit, Within, InRange};

@@ -1,4 +1,4 @@
-// What becomes of a word of text that should name an answer.
+// The error for a word that names none of the cases that it could.
 ghost use Rattle.std.specs.Prelude.{Some, codes};
 
 use std::error::Error;

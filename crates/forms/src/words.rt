@@ -1,7 +1,7 @@
 // The binary digits of a 64-bit word.
 ghost use Rattle.std.specs.Prelude.{◌≡◌, ℕ, ◌-◌, ◌%◌, ◌^◌, ◌<◌, ◌≤◌, bit_and, nat_le, nat_lt};
 
-// So many ones, 64 at most: a mask that takes the lowest digits, and the greatest number that they can be.
+// A word whose lowest `count` digits are ones, all of them from 64 up: a mask that takes the lowest digits, and the greatest number that they can be.
 #[tactic(auto, using(crate::proofs::Shifts::ones_take, crate::proofs::Shifts::word_take, crate::proofs::Shifts::word_cover))]
 pub fn ones(count: u32) -> u64
     ensures value { count ≤ 64 → result ≡ 2 ^ count - 1 }

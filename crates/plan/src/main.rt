@@ -1,46 +1,13 @@
 // What is left of three loads in the office's plan, told in plain text.
 #![tactic(auto)]
 
-mod text;
+mod loss;
 
 use fixed::Fixed;
 use float::{F16, F32, Float};
-use forms::{Reading, Refusal, Source, convert};
-use std::{fmt, io};
-use text::{Amount, Told, apart, direction_word, flag_word};
-
-// Why the story breaks off: it could not be printed, or something was refused that should not have been.
-#[derive(Drop)]
-enum Stop {
-    Print(io::Error),
-    Refused(Refusal),
-}
-
-// What is printed where the story breaks off.
-impl fmt::Debug for Stop {
-    fn fmt<W: fmt::Write>(&self, f: &mut fmt::Formatter<W>) -> fmt::Result {
-        match self {
-            Stop::Print(_) => write!(f, "the story could not be printed"),
-            Stop::Refused(refusal) => {
-                let number = refusal.cause.number();
-                let depth = refusal.depth;
-                write!(f, "refused {number} at depth {depth}")
-            }
-        }
-    }
-}
-
-impl From<io::Error> for Stop {
-    fn from(error: io::Error) -> Stop {
-        Stop::Print(error)
-    }
-}
-
-impl From<Refusal> for Stop {
-    fn from(refusal: Refusal) -> Stop {
-        Stop::Refused(refusal)
-    }
-}
+use forms::{Reading, Source, convert};
+use loss::apart;
+use telling::{Amount, Stop, Told};
 
 // Tells what the plan's half-width float takes from a load.
 fn tell_lost(rt: &HostRuntime, exact: Reading, shown: Reading) -> Result<(), Stop> {
@@ -69,9 +36,8 @@ fn tell<S: Source>(rt: &HostRuntime, source: &S, bits: u64) -> Result<(), Stop> 
     let told = Told(exact);
     println!(rt; "  Read: {told}.")?;
     let (plain, direction, over) = convert::plain(source, bits, &half)?;
-    let standing = direction_word(direction);
-    let flag = flag_word(over);
-    println!(rt; "  As an f16: {plain:04x} {standing} {flag}.")?;
+    let flag = if over { "over" } else { "fits" };
+    println!(rt; "  As an f16: {plain:04x} {direction} {flag}.")?;
     let clamped = convert::clamped(source, bits, &half)?;
     println!(rt; "  Clamped: {clamped:04x}.")?;
     let shown = half.read(plain)?;

@@ -1,4 +1,2 @@
-pub mod Spellings
-pub mod Cuts
-pub mod Answers
-pub mod Tallies
+pub mod Rows
+pub mod Lines

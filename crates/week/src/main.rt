@@ -1,52 +1,28 @@
 // One message's week, told in plain text: what a cell sent, what load it means, and what that is against the motor's plate.
 #![tactic(auto)]
 
-mod text;
-
 use fixed::Fixed;
 use float::{F16, F32, F64, Float};
 use forms::cmp::{compare, equal};
-use forms::{Purchase, Refusal, Source};
-use std::{fmt, io};
-use text::{Reason, Told, advice, word};
-
-// Why the story breaks off: it could not be printed, or something was refused that should not have been.
-#[derive(Drop)]
-enum Stop {
-    Print(io::Error),
-    Refused(Refusal),
-}
-
-// What is printed where the story breaks off.
-impl fmt::Debug for Stop {
-    fn fmt<W: fmt::Write>(&self, f: &mut fmt::Formatter<W>) -> fmt::Result {
-        match self {
-            Stop::Print(_) => write!(f, "the story could not be printed"),
-            Stop::Refused(refusal) => {
-                let reason = Reason(*refusal);
-                write!(f, "{reason}")
-            }
-        }
-    }
-}
-
-impl From<io::Error> for Stop {
-    fn from(error: io::Error) -> Stop {
-        Stop::Print(error)
-    }
-}
-
-impl From<Refusal> for Stop {
-    fn from(refusal: Refusal) -> Stop {
-        Stop::Refused(refusal)
-    }
-}
+use forms::{Comparison, Purchase, Source};
+use telling::{Stop, Told};
 
 // A motor's plate: the most that it takes, as an f64.
 #[derive(Drop)]
 struct Plate {
     form: Float<F64>,
     bits: u64,
+}
+
+// What the comparison of a load with the motor's plate means for the rigger.
+fn advice(comparison: Comparison) -> &'static str {
+    match comparison {
+        Comparison::Less => "The motor takes it.",
+        Comparison::Equal => "The motor takes it, with nothing to spare.",
+        Comparison::More => "The motor would trip on overload: do not hang it.",
+        Comparison::Unordered =>
+            "The cell has lost its number: read it again before you hang anything.",
+    }
 }
 
 // Tells what the bits are read as, and how that stands to the plate.
@@ -56,14 +32,12 @@ fn tell<S: Source>(rt: &HostRuntime, source: &S, bits: u64, plate: &Plate) -> Re
             let told = Told(reading);
             println!(rt; "  Read: {told}.")?;
             let comparison = compare(source, bits, &plate.form, plate.bits)?;
-            let answer = word(comparison);
             let meaning = advice(comparison);
-            println!(rt; "  Against the plate: {answer}. {meaning}")?;
+            println!(rt; "  Against the plate: {comparison}. {meaning}")?;
         }
         Err(refusal) => {
-            let reason = Reason(refusal);
             let depth = refusal.depth;
-            println!(rt; "  Not read: {reason}.")?;
+            println!(rt; "  Not read: {refusal}.")?;
             println!(rt; "  Purchase layers that the refusal came up through: {depth}.")?;
             println!(rt; "  The message is thrown away, and the cell is asked again.")?;
         }
@@ -110,10 +84,7 @@ fn troubles(rt: &HostRuntime, plate: &Plate) -> Result<(), Stop> {
     println!(rt; "Someone asks for a purchase of {factor}.")?;
     match Purchase::new(half, factor) {
         Ok(_) => println!(rt; "  It is rove.")?,
-        Err(refusal) => {
-            let reason = Reason(refusal);
-            println!(rt; "  Not rove: {reason}.")?;
-        }
+        Err(refusal) => println!(rt; "  Not rove: {refusal}.")?,
     }
     Ok(())
 }

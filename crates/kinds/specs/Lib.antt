@@ -1,0 +1,3 @@
+pub mod Names
+pub mod NameLaws
+pub mod Spellings

@@ -1,0 +1,4 @@
+pub mod Steps
+pub mod Lawless
+pub mod Verdicts
+pub mod Tallied

@@ -1,6 +1,0 @@
-pub mod Spellings
-pub mod Cuts
-pub mod Answers
-pub mod Conversions
-pub mod Tallies
-pub mod Lines

@@ -1,0 +1,3 @@
+pub mod Decimals
+pub mod Exact
+pub mod Texts

@@ -1,0 +1,25 @@
+// What is printed of a tally: the three kinds of line that the list has.
+ghost use Rattle.std.specs.Prelude.{Some};
+ghost use Rattle.vectors.specs.Rows.{rows_text};
+
+use lists::tally::Tally;
+use std::fmt;
+
+#[derive(Clone, Copy, Debug, PartialEq, Eq, Hash)]
+pub struct Rows(pub Tally);
+
+impl fmt::Display for Rows {
+    ghost output = { λ rows. Some (rows_text rows.0) };
+
+    fn fmt<W: fmt::Write>(&self, f: &mut fmt::Formatter<W>) -> fmt::Result {
+        let kind = self.0.kind;
+        let neg_abs = self.0.neg_abs;
+        let compare = self.0.compare;
+        let malformed = self.0.malformed;
+        let altered = self.0.altered;
+        write!(
+            f,
+            "kind: {kind} agree\nneg_abs: {neg_abs} agree\ncompare: {compare} agree\nmalformed: {malformed}\naltered: {altered} refused"
+        )
+    }
+}
