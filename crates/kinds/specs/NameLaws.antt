@@ -1,8 +1,9 @@
 -- What every source and every form keeps, of the ones that have names.
-use Rattle.std.specs.Prelude.{ℕ}
-use Rattle.std.proofs.Common.{rules}
+use Rattle.std.specs.Prelude.{◌≡◌, ℕ, ℤ}
+use Rattle.std.proofs.Common.{rules, sym, subst}
 use Rattle.forms.specs.Loads.{Sound}
-use Rattle.forms.specs.Forms.{Laws}
+use Rattle.forms.specs.Amounts.{InRange}
+use Rattle.forms.specs.Forms.{Coarse, Laws}
 use Rattle.fixed.specs.Shapes.{laws_of}
 use Rattle.float.specs.Formats.{Lawful}
 use Rattle.float.specs.InRange.{float_sound as sound_of_lawful}
@@ -25,6 +26,10 @@ float_sound n bits = sound_of_lawful (width_of n) (prec_of n) bits (lawful_of n)
 
 pub float_laws : (n : FormatName) → Laws (float_meaning n)
 float_laws n = laws_of_lawful (width_of n) (prec_of n) (lawful_of n)
+
+-- the first two laws, of a float that is named
+pub float_coarse : (n : FormatName) (e g : ℤ) → InRange e → g ≡ (float_meaning n).writing.grain e → Coarse (float_meaning n).reads e g
+float_coarse n e g r h = subst (Coarse (float_meaning n).reads e) (sym h) ((float_laws n).coarse e r)
 
 pub sound : (f : FormName) (bits : ℕ) → Sound ((meaning_of f).reads bits)
 sound (Fixed f) bits = search rules

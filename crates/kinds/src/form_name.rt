@@ -1,4 +1,6 @@
 // The forms that can be named.
+ghost use Rattle.std.specs.Prelude.{◌≡◌};
+ghost use Rattle.forms.specs.Forms.{Asked};
 ghost use Rattle.kinds.specs.Names.{meaning_of};
 ghost use Rattle.kinds.specs.NameLaws.{sound, laws};
 
@@ -26,6 +28,19 @@ impl Source for FormName {
     }
 }
 
+impl FormName {
+    // What the form that is named writes.
+    fn form_write(&self, negative: bool, e: i32, low: u64, more: bool) -> (u64, bool)
+        requires { Asked (meaning_of self.now).writing e low more }
+        ensures { result ≡ (meaning_of self.now).writing.write negative e low more }
+    {
+        match self {
+            FormName::Fixed(form) => form.write(negative, e, low, more),
+            FormName::Float(name) => name.write(negative, e, low, more),
+        }
+    }
+}
+
 impl Form for FormName {
     ghost writing = { λ form. (meaning_of form).writing };
 
@@ -39,10 +54,7 @@ impl Form for FormName {
     }
 
     fn write(&self, negative: bool, e: i32, low: u64, more: bool) -> (u64, bool) {
-        match self {
-            FormName::Fixed(form) => form.write(negative, e, low, more),
-            FormName::Float(name) => name.write(negative, e, low, more),
-        }
+        self.form_write(negative, e, low, more)
     }
 
     fn zero(&self) -> u64 {

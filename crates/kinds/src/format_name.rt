@@ -1,4 +1,7 @@
 // The float formats that have names.
+ghost use Rattle.std.specs.Prelude.{◌≡◌};
+ghost use Rattle.forms.specs.Amounts.{InRange};
+ghost use Rattle.forms.specs.Forms.{Asked};
 ghost use Rattle.kinds.specs.Names.{float_meaning};
 ghost use Rattle.kinds.specs.NameLaws.{float_sound, float_laws};
 ghost use Rattle.kinds.specs.Spellings.{format_word};
@@ -48,12 +51,12 @@ impl Source for FormatName {
     }
 }
 
-impl Form for FormatName {
-    ghost writing = { λ name. (float_meaning name).writing };
-
-    ghost laws = { float_laws };
-
-    fn grain(&self, e: i32) -> i32 {
+impl FormatName {
+    // The grain of the float that is named.
+    fn float_grain(&self, e: i32) -> i32
+        requires { InRange e }
+        ensures { result ≡ (float_meaning self.now).writing.grain e }
+    {
         match self {
             FormatName::F16 => Float::new(F16).grain(e),
             FormatName::Bf16 => Float::new(Bf16).grain(e),
@@ -62,13 +65,31 @@ impl Form for FormatName {
         }
     }
 
-    fn write(&self, negative: bool, e: i32, low: u64, more: bool) -> (u64, bool) {
+    // What the float that is named writes.
+    fn float_write(&self, negative: bool, e: i32, low: u64, more: bool) -> (u64, bool)
+        requires { Asked (float_meaning self.now).writing e low more }
+        ensures { result ≡ (float_meaning self.now).writing.write negative e low more }
+    {
         match self {
             FormatName::F16 => Float::new(F16).write(negative, e, low, more),
             FormatName::Bf16 => Float::new(Bf16).write(negative, e, low, more),
             FormatName::F32 => Float::new(F32).write(negative, e, low, more),
             FormatName::F64 => Float::new(F64).write(negative, e, low, more),
         }
+    }
+}
+
+impl Form for FormatName {
+    ghost writing = { λ name. (float_meaning name).writing };
+
+    ghost laws = { float_laws };
+
+    fn grain(&self, e: i32) -> i32 {
+        self.float_grain(e)
+    }
+
+    fn write(&self, negative: bool, e: i32, low: u64, more: bool) -> (u64, bool) {
+        self.float_write(negative, e, low, more)
     }
 
     fn zero(&self) -> u64 {

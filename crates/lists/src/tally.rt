@@ -3,7 +3,7 @@ ghost use Rattle.std.specs.Prelude.{◌≡◌, Some};
 ghost use Rattle.std.specs.Option.{option_map};
 ghost use Rattle.forms.specs.Spellings.{Spells};
 ghost use Rattle.lists.specs.Spellings.{kind_word};
-ghost use Rattle.lists.specs.Tallies.{judged, fault_of, counted, nothing, with_line, tallied, count_text, tally_text};
+ghost use Rattle.lists.specs.Tallies.{judged, fault_of, counted, nothing, with_line, tallied, count_text, readings_text, conversions_text, tally_text};
 
 use forms::UnknownWord;
 use std::fmt;
@@ -154,25 +154,50 @@ impl Tally {
     }
 }
 
-impl fmt::Display for Tally {
-    ghost output = { λ t. Some (tally_text t) };
+// The rows of the kinds of line that ask what bits are, and how they compare.
+#[derive(Drop)]
+pub struct Readings(pub Tally);
+
+impl fmt::Display for Readings {
+    ghost output = { λ r. Some (readings_text r.0) };
 
     fn fmt<W: fmt::Write>(&self, f: &mut fmt::Formatter<W>) -> fmt::Result {
-        let kind = self.kind;
-        let neg_abs = self.neg_abs;
-        let compare = self.compare;
-        let to_float = self.to_float;
-        let from_float = self.from_float;
-        let convert = self.convert;
-        let malformed = self.malformed;
-        let altered = self.altered;
+        let kind = self.0.kind;
+        let neg_abs = self.0.neg_abs;
+        let compare = self.0.compare;
         write!(
             f,
             "kind: {kind} agree\nneg_abs: {neg_abs} agree\ncompare: {compare} agree\n"
-        )?;
+        )
+    }
+}
+
+// The rows of the kinds that ask for conversions, and what is malformed or altered.
+#[derive(Drop)]
+struct Conversions(Tally);
+
+impl fmt::Display for Conversions {
+    ghost output = { λ c. Some (conversions_text c.0) };
+
+    fn fmt<W: fmt::Write>(&self, f: &mut fmt::Formatter<W>) -> fmt::Result {
+        let to_float = self.0.to_float;
+        let from_float = self.0.from_float;
+        let convert = self.0.convert;
+        let malformed = self.0.malformed;
+        let altered = self.0.altered;
         write!(
             f,
             "to_float: {to_float} agree\nfrom_float: {from_float} agree\nconvert: {convert} agree\nmalformed: {malformed}\naltered: {altered} refused"
         )
+    }
+}
+
+impl fmt::Display for Tally {
+    ghost output = { λ t. Some (tally_text t) };
+
+    fn fmt<W: fmt::Write>(&self, f: &mut fmt::Formatter<W>) -> fmt::Result {
+        let readings = Readings(*self);
+        let conversions = Conversions(*self);
+        write!(f, "{readings}{conversions}")
     }
 }

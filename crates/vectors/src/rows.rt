@@ -2,7 +2,7 @@
 ghost use Rattle.std.specs.Prelude.{Some};
 ghost use Rattle.vectors.specs.Rows.{rows_text};
 
-use lists::tally::Tally;
+use lists::tally::{Readings, Tally};
 use std::fmt;
 
 #[derive(Clone, Copy, Debug, PartialEq, Eq, Hash)]
@@ -12,14 +12,12 @@ impl fmt::Display for Rows {
     ghost output = { λ rows. Some (rows_text rows.0) };
 
     fn fmt<W: fmt::Write>(&self, f: &mut fmt::Formatter<W>) -> fmt::Result {
-        let kind = self.0.kind;
-        let neg_abs = self.0.neg_abs;
-        let compare = self.0.compare;
+        let readings = Readings(self.0);
         let malformed = self.0.malformed;
         let altered = self.0.altered;
         write!(
             f,
-            "kind: {kind} agree\nneg_abs: {neg_abs} agree\ncompare: {compare} agree\nmalformed: {malformed}\naltered: {altered} refused"
+            "{readings}malformed: {malformed}\naltered: {altered} refused"
         )
     }
 }

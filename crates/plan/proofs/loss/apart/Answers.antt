@@ -1,7 +1,6 @@
 use Rattle.std.proofs.Common.{◌≡◌, ◌*◌, ◌^◌, pos, ◌-ℤ◌, ◌≤ℤ◌, ap, ap₂, ◌∙◌, rules, w32, to_z, of_z}
 use Rattle.std.specs.Int.{abs_diff}
 use Rattle.forms.specs.Loads.{nat_of, weight}
-use Rattle.plan.proofs.Losses.{abs_diff_times}
 use Rattle.plan.proofs.loss.apart.Goals as goal
 
 pub returns : goal.returns
@@ -11,4 +10,4 @@ returns c = λ h k.
     let m : scale ≤ℤ pos 1074 = search rules in
     let left : c.in_ok-a.a * u ≡ weight c.args.left = c.in_ok-a.ensures m in
     let right : c.in_ok-b.b * u ≡ weight c.args.right = c.in_ok-b.ensures m in
-    c.new.ensures.worth ∙ ap pos (ap (λ x. x * u) c.abs_diff.ensures ∙ abs_diff_times c.in_ok-a.a c.in_ok-b.b u ∙ ap₂ abs_diff left right)
+    c.between.ensures ∙ ap pos (ap₂ abs_diff left right)
