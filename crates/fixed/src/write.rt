@@ -45,8 +45,8 @@ impl Fixed {
     fn written(self, low: Whole, more: bool) -> (u64, bool)
         ensures { result ≡ fixed_writes self.signed self.width low.negative low.size more }
     {
-        let outside = low.size > self.limit(low.negative).size;
-        (low.low_digits(self.width), more || outside)
+        let over = more || low.size > self.limit(low.negative).size;
+        (low.low_digits(self.width), over)
     }
 }
 

@@ -1,11 +1,11 @@
 // The comparison of readings, whatever forms they come in: ported from cmp.rs of the Rust crate `fixed`. Its `Value` is a `Load` here, and every size
 // has 64 bits. The names that begin with `float` are the crate's, which compares a fixed number with a float; here both sides may be either. What the crate answers
-// to `==` is `equal` here, which asks the comparison.
-ghost use Rattle.std.specs.Prelude.{◌≡◌, ◌*◌, ◌^◌, ◌≤◌, pos, ◌≤ℤ◌, Some, None};
+// to `==` is `equal` here, which has functions of its own, each beside the comparison's: they take less time than to ask for the comparison.
+ghost use Rattle.std.specs.Prelude.{◌≡◌, ◌*◌, ◌^◌, ◌≤◌, pos, ◌≤ℤ◌, Some, None, nat_eq};
 ghost use Rattle.forms.specs.declared.load.Reading.{Reading};
 ghost use Rattle.forms.specs.Refusals.{told};
 ghost use Rattle.forms.specs.Loads.{SoundReading, worth};
-ghost use Rattle.forms.specs.Comparisons.{from_ordering, ordered, against, compared, equality, mirrored};
+ghost use Rattle.forms.specs.Comparisons.{from_ordering, ordered, against, compared, equality, is_equal, mirrored};
 ghost use Rattle.forms.specs.Spellings.{Spells, comparison_word};
 
 use crate::load::Reading;
@@ -85,6 +85,7 @@ impl FromStr for Comparison {
 }
 
 // The right size moved up to the left load's scale; none where 64 bits do not hold it.
+#[inline(always)]
 fn float_rhs_shl(rhs_size: u64, rhs_shl: u32) -> Option<u64>
     ensures { elim result [ Some size ↦ size ≡ rhs_size * 2 ^ rhs_shl | None ↦ 2 ^ 64 ≤ rhs_size * 2 ^ rhs_shl ] }
 {
@@ -98,7 +99,19 @@ fn float_rhs_shl(rhs_size: u64, rhs_shl: u32) -> Option<u64>
     }
 }
 
+// Whether two sizes are equal, the right one moved up.
+#[inline(always)]
+fn eq_sizes(lhs_size: u64, rhs_size: u64, rhs_shl: u32) -> bool
+    ensures { result ≡ nat_eq lhs_size (rhs_size * 2 ^ rhs_shl) }
+{
+    match float_rhs_shl(rhs_size, rhs_shl) {
+        None => false,
+        Some(shifted) => lhs_size == shifted,
+    }
+}
+
 // The comparison of two sizes, the right one moved up.
+#[inline(always)]
 fn cmp_sizes(lhs_size: u64, rhs_size: u64, rhs_shl: u32) -> Comparison
     ensures { result ≡ ordered (pos lhs_size) (pos (rhs_size * 2 ^ rhs_shl)) }
 {
@@ -109,7 +122,24 @@ fn cmp_sizes(lhs_size: u64, rhs_size: u64, rhs_shl: u32) -> Comparison
     }
 }
 
+// Whether two loads are worth the same, the left one no coarser than the right one.
+#[inline(always)]
+fn eq_aligned(lhs: RangedLoad, rhs: RangedLoad) -> bool
+    requires { rhs.load.scale ≤ℤ lhs.load.scale }
+    ensures { result ≡ is_equal (ordered (worth lhs.load) (worth rhs.load)) }
+{
+    if lhs.load.negative != rhs.load.negative {
+        return false;
+    }
+    eq_sizes(
+        lhs.load.size,
+        rhs.load.size,
+        (lhs.load.scale - rhs.load.scale) as u32,
+    )
+}
+
 // The comparison of two loads, the left one no coarser than the right one.
+#[inline(always)]
 fn cmp_aligned(lhs: RangedLoad, rhs: RangedLoad) -> Comparison
     requires { rhs.load.scale ≤ℤ lhs.load.scale }
     ensures { result ≡ ordered (worth lhs.load) (worth rhs.load) }
@@ -133,7 +163,20 @@ fn cmp_aligned(lhs: RangedLoad, rhs: RangedLoad) -> Comparison
     }
 }
 
+// Whether two loads are worth the same.
+#[inline(always)]
+fn float_eq_even(lhs: RangedLoad, rhs: RangedLoad) -> bool
+    ensures { result ≡ is_equal (ordered (worth lhs.load) (worth rhs.load)) }
+{
+    if lhs.load.scale < rhs.load.scale {
+        eq_aligned(rhs, lhs)
+    } else {
+        eq_aligned(lhs, rhs)
+    }
+}
+
 // The comparison of two loads.
+#[inline(always)]
 fn float_cmp_even(lhs: RangedLoad, rhs: RangedLoad) -> Comparison
     ensures { result ≡ ordered (worth lhs.load) (worth rhs.load) }
 {
@@ -144,7 +187,24 @@ fn float_cmp_even(lhs: RangedLoad, rhs: RangedLoad) -> Comparison
     }
 }
 
+// Whether two readings are equal: endless ones are equal to themselves, and no number is equal to nothing.
+#[inline(always)]
+fn eq(lhs: Reading, rhs: Reading) -> bool
+    requires { (SoundReading lhs) × (SoundReading rhs) }
+    ensures { result ≡ is_equal (against lhs rhs) }
+{
+    match (lhs, rhs) {
+        (Reading::Finite(lhs), Reading::Finite(rhs)) => {
+            float_eq_even(RangedLoad { load: lhs }, RangedLoad { load: rhs })
+        }
+        (Reading::EndlessUp, Reading::EndlessUp) => true,
+        (Reading::EndlessDown, Reading::EndlessDown) => true,
+        _ => false,
+    }
+}
+
 // The comparison of two readings.
+#[inline(always)]
 fn partial_cmp(lhs: Reading, rhs: Reading) -> Comparison
     requires { (SoundReading lhs) × (SoundReading rhs) }
     ensures { result ≡ against lhs rhs }
@@ -165,6 +225,7 @@ fn partial_cmp(lhs: Reading, rhs: Reading) -> Comparison
 }
 
 // How what the left bits are read as stands to what the right bits are read as. The left reading's refusal comes first, then the right one's.
+#[inline(always)]
 pub fn compare<A: Source, B: Source>(
     left: &A,
     left_bits: u64,
@@ -179,6 +240,7 @@ pub fn compare<A: Source, B: Source>(
 }
 
 // Whether both are read as the same: the comparison's answer, equal or not.
+#[inline(always)]
 pub fn equal<A: Source, B: Source>(
     left: &A,
     left_bits: u64,
@@ -187,6 +249,7 @@ pub fn equal<A: Source, B: Source>(
 ) -> Result<bool, Refusal>
     ensures { told result ≡ equality (compared (A.Source.reads left.now left_bits) (B.Source.reads right.now right_bits)) }
 {
-    let comparison = compare(left, left_bits, right, right_bits)?;
-    Ok(comparison == Comparison::Equal)
+    let lhs = left.read(left_bits)?;
+    let rhs = right.read(right_bits)?;
+    Ok(eq(lhs, rhs))
 }

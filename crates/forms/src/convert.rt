@@ -15,6 +15,7 @@ use crate::round;
 use crate::source::Source;
 
 // How an answer with these bits stands to the exact load: an infinite one is above or below every load, and any other stands as `direction` says.
+#[inline(always)]
 fn facing<F: Form>(form: &F, bits: u64, direction: Direction) -> Direction
     ensures { result ≡ facing (F.Source.reads form.now bits) direction }
 {
@@ -26,6 +27,7 @@ fn facing<F: Form>(form: &F, bits: u64, direction: Direction) -> Direction
 }
 
 // The direction of amounts with a sign, from that of their sizes.
+#[inline(always)]
 fn turned(negative: bool, direction: Direction) -> Direction
     ensures { result ≡ turned negative direction }
 {
@@ -37,6 +39,7 @@ fn turned(negative: bool, direction: Direction) -> Direction
 }
 
 // A load other than 0 in a form: bits, direction and flag.
+#[inline(always)]
 fn write_into<F: Form>(exact: NonZeroLoad, form: &F) -> (u64, Direction, bool)
     ensures { result ≡ answered (form_of (F.Source.reads form.now) (F.Form.writing form.now)) exact.load.negative (weight exact.load) }
 {
@@ -53,6 +56,7 @@ fn write_into<F: Form>(exact: NonZeroLoad, form: &F) -> (u64, Direction, bool)
 }
 
 // A load in a form.
+#[inline(always)]
 fn load_into<F: Form>(exact: RangedLoad, form: &F) -> (u64, Direction, bool)
     ensures value { result ≡ plain_of (form_of (F.Source.reads form.now) (F.Form.writing form.now)) (worth exact.load) }
     ensures nearest { NearestAnswer (form_of (F.Source.reads form.now) (F.Form.writing form.now)) (worth exact.load) result }
@@ -66,6 +70,7 @@ fn load_into<F: Form>(exact: RangedLoad, form: &F) -> (u64, Direction, bool)
 }
 
 // The same, clamped.
+#[inline(always)]
 fn clamped_into<F: Form>(exact: RangedLoad, form: &F) -> u64
     ensures { result ≡ clamped_of (form_of (F.Source.reads form.now) (F.Form.writing form.now)) (worth exact.load) }
 {

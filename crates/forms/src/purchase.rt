@@ -33,6 +33,13 @@ impl TryFrom<u32> for Factor {
 }
 
 impl Factor {
+    // Likewise, by name.
+    pub fn new(factor: u32) -> Result<Factor, Refusal>
+        ensures { told result ≡ factor_of factor }
+    {
+        Self::try_from(factor)
+    }
+
     // The factor is two to this power.
     fn doublings(self) -> u8
         ensures { result ≡ doublings self }

@@ -21,6 +21,7 @@ pub(crate) struct Grains {
 }
 
 // The exponent of a load other than 0.
+#[inline(always)]
 pub(crate) fn exponent(exact: NonZeroLoad) -> i32
     ensures value { result ≡ exponent (weight exact.load) }
     ensures within { Within (weight exact.load) result }
@@ -94,6 +95,7 @@ fn raised(size: u64, by: u32) -> Grains
 }
 
 // A load other than 0, rounded to grains of 2^grain.
+#[inline(always)]
 pub(crate) fn rounded(exact: NonZeroLoad, grain: i32) -> Grains
     requires { InRange grain }
     ensures { result ≡ rounded_to (unit grain) (weight exact.load) }

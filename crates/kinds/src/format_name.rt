@@ -41,6 +41,7 @@ impl Source for FormatName {
 
     ghost sound = { float_sound };
 
+    #[inline(always)]
     fn read(&self, bits: u64) -> Result<Reading, Refusal> {
         match self {
             FormatName::F16 => Float::new(F16).read(bits),

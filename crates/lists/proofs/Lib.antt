@@ -1,4 +1,3 @@
-pub mod Steps
 pub mod Lawless
 pub mod Verdicts
 pub mod Tallied

@@ -91,7 +91,7 @@ impl From<Refusal> for NoClaim {
 
 // `nan`, `infinite SIGN` or `finite SIGN SIZE SCALE`.
 fn reading(words: &mut Words<'_>) -> Result<Reading, Malformed>
-    ensures { IfOk result (λ said. SaysReading said words.old.parts.rest words.new.parts.rest) }
+    ensures { IfOk result (λ said. SaysReading said words.old.rest words.new.rest) }
 {
     match words.word()? {
         "nan" => Ok(Reading::NoNumber),
@@ -115,7 +115,7 @@ fn reading(words: &mut Words<'_>) -> Result<Reading, Malformed>
 
 // COMPARISON COMPARISON EQUALITY EQUALITY, each there and then back.
 fn both_answers(words: &mut Words<'_>) -> Result<Answers, Malformed>
-    ensures { IfOk result (λ said. SaysAnswers said words.old.parts.rest words.new.parts.rest) }
+    ensures { IfOk result (λ said. SaysAnswers said words.old.rest words.new.rest) }
 {
     let there = words.word()?.parse()?;
     let back = words.word()?.parse()?;
@@ -135,7 +135,7 @@ fn both_answers(words: &mut Words<'_>) -> Result<Answers, Malformed>
 
 // `nan`, `infinite CLAMPED` or `BITS DIRECTION FLAG CLAMPED`.
 fn conversion(words: &mut Words<'_>) -> Result<Conversion, Malformed>
-    ensures { IfOk result (λ said. SaysConversion said words.old.parts.rest words.new.parts.rest) }
+    ensures { IfOk result (λ said. SaysConversion said words.old.rest words.new.rest) }
 {
     match words.word()? {
         "nan" => Ok(Conversion::NoNumber),
@@ -155,7 +155,7 @@ fn conversion(words: &mut Words<'_>) -> Result<Conversion, Malformed>
 
 // FLOAT BITS.
 fn float(words: &mut Words<'_>) -> Result<Side<FormatName>, Malformed>
-    ensures { IfOk result (λ side. SaysFloat side words.old.parts.rest words.new.parts.rest) }
+    ensures { IfOk result (λ side. SaysFloat side words.old.rest words.new.rest) }
 {
     let form = words.word()?.parse()?;
     let bits = hex(words.word()?)?;
@@ -164,7 +164,7 @@ fn float(words: &mut Words<'_>) -> Result<Side<FormatName>, Malformed>
 
 // i|u WIDTH FRACTION, or the name of a float's format.
 fn form(words: &mut Words<'_>) -> Result<FormName, NoClaim>
-    ensures { IfOk result (λ said. SaysForm said words.old.parts.rest words.new.parts.rest) }
+    ensures { IfOk result (λ said. SaysForm said words.old.rest words.new.rest) }
 {
     let word = words.word()?;
     if let Ok(format) = word.parse() {
@@ -179,7 +179,7 @@ fn form(words: &mut Words<'_>) -> Result<FormName, NoClaim>
 
 // i|u WIDTH FRACTION.
 fn fixed(words: &mut Words<'_>) -> Result<Fixed, NoClaim>
-    ensures { IfOk result (λ said. SaysForm (FormName.Fixed said) words.old.parts.rest words.new.parts.rest) }
+    ensures { IfOk result (λ said. SaysForm (FormName.Fixed said) words.old.rest words.new.rest) }
 {
     match form(words)? {
         FormName::Fixed(fixed) => Ok(fixed),
@@ -189,7 +189,7 @@ fn fixed(words: &mut Words<'_>) -> Result<Fixed, NoClaim>
 
 // FLOAT BITS READING.
 fn kind(words: &mut Words<'_>) -> Result<Claim, NoClaim>
-    ensures { Read LineKind.Kind words.old.parts.rest result }
+    ensures { Read LineKind.Kind words.old.rest result }
 {
     let float = float(words)?;
     let reading = reading(words)?;
@@ -199,7 +199,7 @@ fn kind(words: &mut Words<'_>) -> Result<Claim, NoClaim>
 
 // i|u WIDTH BITS SIGN SIZE. Whether there is the form is seen once all is read.
 fn neg_abs(words: &mut Words<'_>) -> Result<Claim, NoClaim>
-    ensures { Read LineKind.NegAbs words.old.parts.rest result }
+    ensures { Read LineKind.NegAbs words.old.rest result }
 {
     let signed = signedness(words.word()?)?;
     let width = words.word()?.parse()?;
@@ -218,7 +218,7 @@ fn neg_abs(words: &mut Words<'_>) -> Result<Claim, NoClaim>
 
 // i|u WIDTH FRACTION BITS FLOAT BITS ANSWERS. Whether there is the form is seen once all is read.
 fn compare(words: &mut Words<'_>) -> Result<Claim, NoClaim>
-    ensures { Read LineKind.Compare words.old.parts.rest result }
+    ensures { Read LineKind.Compare words.old.rest result }
 {
     let signed = signedness(words.word()?)?;
     let width = words.word()?.parse()?;
@@ -233,7 +233,7 @@ fn compare(words: &mut Words<'_>) -> Result<Claim, NoClaim>
 
 // i|u WIDTH FRACTION BITS FLOAT BITS.
 fn to_float(words: &mut Words<'_>) -> Result<Claim, NoClaim>
-    ensures { IfOk result (λ claim. Claims LineKind.ToFloat words.old.parts.rest claim) }
+    ensures { IfOk result (λ claim. Claims LineKind.ToFloat words.old.rest claim) }
 {
     let form = fixed(words)?;
     let bits = hex(words.word()?)?;
@@ -244,7 +244,7 @@ fn to_float(words: &mut Words<'_>) -> Result<Claim, NoClaim>
 
 // FLOAT BITS i|u WIDTH FRACTION ANSWER.
 fn from_float(words: &mut Words<'_>) -> Result<Claim, NoClaim>
-    ensures { IfOk result (λ claim. Claims LineKind.FromFloat words.old.parts.rest claim) }
+    ensures { IfOk result (λ claim. Claims LineKind.FromFloat words.old.rest claim) }
 {
     let float = float(words)?;
     let fixed = fixed(words)?;
@@ -255,7 +255,7 @@ fn from_float(words: &mut Words<'_>) -> Result<Claim, NoClaim>
 
 // FORM BITS FORM ANSWER.
 fn convert(words: &mut Words<'_>) -> Result<Claim, NoClaim>
-    ensures { IfOk result (λ claim. Claims LineKind.Convert words.old.parts.rest claim) }
+    ensures { IfOk result (λ claim. Claims LineKind.Convert words.old.rest claim) }
 {
     let source = form(words)?;
     let bits = hex(words.word()?)?;
@@ -267,7 +267,7 @@ fn convert(words: &mut Words<'_>) -> Result<Claim, NoClaim>
 
 // What a line of a kind claims by the words after the first.
 pub fn claim_of(sort: LineKind, words: &mut Words<'_>) -> Result<Claim, NoClaim>
-    ensures { Read sort words.old.parts.rest result }
+    ensures { Read sort words.old.rest result }
 {
     match sort {
         LineKind::Kind => kind(words),

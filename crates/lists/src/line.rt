@@ -2,7 +2,6 @@
 ghost use Rattle.std.specs.Prelude.{◌≡◌, not, is_some, is_ok, Some};
 ghost use Rattle.std.specs.Int.{w32};
 ghost use Rattle.std.specs.Option.{option_map};
-ghost use Rattle.std.specs.Str.Iter.{split_pattern};
 ghost use Rattle.std.specs.Str.Parse.{ParsesUnsigned, ParsesSigned};
 ghost use Rattle.lists.specs.Cuts.{Takes};
 ghost use Rattle.forms.specs.Spellings.{Spells};
@@ -10,7 +9,6 @@ ghost use Rattle.lists.specs.Spellings.{sign_word, signedness_word, equality_wor
 
 use forms::UnknownWord;
 use std::num::ParseIntError;
-use std::str::Split;
 use thiserror::Error;
 
 // The line does not say what a line of its kind says.
@@ -33,35 +31,43 @@ impl From<UnknownWord> for Malformed {
 // The words of a line that are still to be read.
 #[derive(Drop)]
 pub struct Words<'a> {
-    parts: Split<'a, char>,
-    // they are cut at spaces
-    ghost spaced: { split_pattern parts ≡ 32 },
+    // none once the last word is read
+    rest: Option<&'a str>,
 }
 
 impl<'a> Words<'a> {
     pub fn new(line: &'a str) -> Words<'a>
-        ensures { option_map (λ x. x.now) result.parts.rest ≡ Some line.now }
+        ensures { option_map (λ x. x.now) result.rest ≡ Some line.now }
     {
-        Words {
-            parts: line.split(' '),
-        }
+        Words { rest: Some(line) }
     }
 
     // The next word, which is empty where two spaces meet.
     pub fn word(&mut self) -> Result<&'a str, Malformed>
-        ensures { Takes self.old.parts.rest result self.new.parts.rest }
+        ensures { Takes self.old.rest result self.new.rest }
     {
-        self.parts.next().ok_or(Malformed)
+        let Some(line) = self.rest else {
+            return Err(Malformed);
+        };
+        match line.split_once(' ') {
+            Some((word, rest)) => {
+                self.rest = Some(rest);
+                Ok(word)
+            }
+            None => {
+                self.rest = None;
+                Ok(line)
+            }
+        }
     }
 
     // Refused unless every word is read.
-    pub fn end(&mut self) -> Result<(), Malformed>
-        ensures { is_ok result ≡ not (is_some self.old.parts.rest) }
+    pub fn end(&self) -> Result<(), Malformed>
+        ensures { is_ok result ≡ not (is_some self.now.rest) }
     {
-        if self.parts.next().is_none() {
-            Ok(())
-        } else {
-            Err(Malformed)
+        match self.rest {
+            None => Ok(()),
+            Some(_) => Err(Malformed),
         }
     }
 }

@@ -7,11 +7,11 @@ pub returns : goal.returns
 returns c =
     record {
       is_kind = refl;
-      after = c.both_answers.new.words.parts.rest;
+      after = c.both_answers.new.words.rest;
       says =
           record {
-            between = c.word-3.new.self.parts.rest;
-            first = record { between = c.word-2.new.self.parts.rest; first = search rules; second = search rules };
+            between = c.word-3.new.self.rest;
+            first = record { between = c.word-2.new.self.rest; first = search rules; second = search rules };
             second = search rules;
           };
       whole = search rules;
@@ -19,5 +19,5 @@ returns c =
 
 pub returns-in_err-form : goal.returns-in_err-form
 returns-in_err-form c =
-    read_unlawful Compare c.args.words.now.parts.rest c.from_residual-in_err-form.result (search rules)
-    (c.in_ok-signed.signed, c.in_ok-width.width, c.in_ok-fraction.fraction, c.word-3.new.self.parts.rest, record { between = c.word-2.new.self.parts.rest; first = search rules; second = search rules }, c.in_err-form.ensures.0)
+    read_unlawful Compare c.args.words.now.rest c.from_residual-in_err-form.result (search rules)
+    (c.in_ok-signed.signed, c.in_ok-width.width, c.in_ok-fraction.fraction, c.word-3.new.self.rest, record { between = c.word-2.new.self.rest; first = search rules; second = search rules }, c.in_err-form.ensures.0)

@@ -13,5 +13,5 @@ endless_said false before after said = said
 
 pub returns-in_ok-negative-in-infinite : goal.returns-in_ok-negative-in-infinite
 returns-in_ok-negative-in-infinite c =
-    subst (λ (x : Reading). SaysReading x c.args.words.now.parts.rest c.word-in-infinite.new.self.parts.rest) (sym c.endless.ensures)
-    (endless_said c.in_ok-negative-in-infinite.negative c.args.words.now.parts.rest c.word-in-infinite.new.self.parts.rest (search rules))
+    subst (λ (x : Reading). SaysReading x c.args.words.now.rest c.word-in-infinite.new.self.rest) (sym c.endless.ensures)
+    (endless_said c.in_ok-negative-in-infinite.negative c.args.words.now.rest c.word-in-infinite.new.self.rest (search rules))

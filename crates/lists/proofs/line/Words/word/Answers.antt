@@ -1,10 +1,10 @@
-use Rattle.std.proofs.Common.{sym, subst}
-use Rattle.lists.specs.Cuts.{Takes}
-use Rattle.lists.proofs.Steps.{takes}
+use Rattle.std.proofs.Common.{Some, None, refl, lit<}
+use Rattle.std.proofs.lemmas.Str.Pattern.{split_parts}
 use Rattle.lists.proofs.line.Words.word.Goals as goal
 
-pub returns : goal.returns
-returns c =
-    let s = c.args.self.now.parts in
-    let t = c.next.new.self in
-    subst (λ r. Takes s.rest r t.rest) (sym c.ok_or.ensures.value) (takes _ _ s c.next.result t c.args.self.now.spaced c.next.ensures.steps)
+pub returns-in-Some-split_once : goal.returns-in-Some-split_once
+returns-in-Some-split_once c =
+    rw c.in-Some.is (split_parts 32 c.in-Some.line.now (Some (c.in-Some-split_once.word, c.in-Some-split_once.rest)) c.in-Some-split_once.ensures.cases (lit< tt))
+
+pub returns-in-None : goal.returns-in-None
+returns-in-None c = rw c.in-Some.is (refl, split_parts 32 c.in-Some.line.now None c.in-None.ensures.cases (lit< tt))
